@@ -1,0 +1,5 @@
+-- Lemmas of the audit.
+mod Apart
+mod Endian
+mod Framing
+mod Telling

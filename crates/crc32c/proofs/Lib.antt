@@ -1,0 +1,4 @@
+-- Lemmas of the checksum.
+mod Feeding
+mod Linear
+mod Rule

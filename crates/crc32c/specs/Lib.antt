@@ -1,0 +1,3 @@
+-- Definitions of the checksum.
+pub mod Crc
+pub mod Fed
