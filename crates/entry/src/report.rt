@@ -21,7 +21,16 @@ pub impl fmt::Display for Report as ReportDisplay {
     ghost shown = { λ r. Some (reportLine r) };
 
     fn fmt<W: fmt::Write>(&self, f: &mut fmt::Formatter<W>) -> fmt::Result {
-        let Report { rounds, dealt, undealt, registered, woken } = *self;
-        write!(f, "(report {rounds} {dealt} {undealt} {registered} {woken})")
+        let Report {
+            rounds,
+            dealt,
+            undealt,
+            registered,
+            woken,
+        } = *self;
+        write!(
+            f,
+            "(report {rounds} {dealt} {undealt} {registered} {woken})"
+        )
     }
 }
