@@ -27,6 +27,10 @@ view l = bookOf (l .written) (vec-items (l .memory))
 abbrev pub rightSize : List Entry → Bool
 rightSize memory = leb 1024 (length memory) && leb (length memory) 65536
 
+-- memory of another size is refused by this number
+abbrev pub wrongSizeNumber : ℕ
+wrongSizeNumber = 4
+
 -- at first nothing is written, and all of the memory is blank
 abbrev pub empty : List Entry → Book
 empty memory = record { log = []; blank = memory }

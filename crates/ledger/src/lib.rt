@@ -2,6 +2,7 @@
 ghost use Prim.Native.Nat.{_≤_};
 ghost use Rattle.std.specs.Of.Vec.{vec-len};
 
+mod counts;
 pub mod memory;
 pub mod totals;
 pub mod writing;

@@ -4,7 +4,7 @@ ghost use mathlib.Core.Bool.{true};
 ghost use Rattle.std.specs.Of.Vec.{vec-items};
 ghost use Rattle.std.specs.Results.{isOk};
 ghost use Rattle.std.specs.Vec.{made, refused};
-ghost use Rattle.ledger.specs.Book.{Book, view, empty, whole, rightSize};
+ghost use Rattle.ledger.specs.Book.{Book, view, empty, whole, rightSize, wrongSizeNumber};
 use crate::LEAST_ENTRIES;
 use crate::Ledger;
 use crate::MOST_ENTRIES;
@@ -18,7 +18,11 @@ pub struct WrongSize {
 
 impl WrongSize {
     // The number of this refusal.
-    pub const NUMBER: u8 = 4;
+    pub fn number(&self) -> u8
+        ensures value { λ r. ⌜ r ≡ wrongSizeNumber ⌝ }
+    {
+        4
+    }
 }
 
 impl Ledger {

@@ -1,7 +1,6 @@
 // How entries are written and read.
 ghost use mathlib.Core.Path.{_≡_};
-ghost use Prim.Native.Nat.{_<_, _≤_};
-ghost use lib.ListN.{length};
+ghost use Prim.Native.Nat.{_+_, _<_};
 ghost use Rattle.ledger.specs.Book.{Book, view, free, written};
 use crate::Ledger;
 use entry::Entry;
@@ -18,6 +17,7 @@ impl Ledger {
     pub fn write(&mut self, entry: Entry)
         requires room { ⌜ 0 < free (view (now self)) ⌝ }
         ensures state { λ _. ⌜ view (now (self .exit)) ≡ written entry (view (now (self .entry))) ⌝ }
+        ensures left { λ _. ⌜ free (view (now (self .exit))) + 1 ≡ free (view (now (self .entry))) ⌝ }
     {
         self.memory[self.written] = entry;
         self.written += 1;

@@ -1,0 +1,8 @@
+use mathlib.Core.Path.{_≡_}
+use Prim.Native.Nat.{_≤_}
+use lib.ListN.{take}
+use Rattle.ledger.specs.Counting.{all, countsOf}
+use Rattle.ledger.proofs.totals.Totals.of.Given as given
+
+abbrev pub Inv-loop-entry : given.InvT-loop-entry
+Inv-loop-entry l = (l .counts ≡ countsOf (take (l .entry-index) (l .entries))) × (all (l .counts) ≤ l .entry-index)
