@@ -3,3 +3,5 @@
 mod memory;
 #[cfg(test)]
 mod printing;
+#[cfg(test)]
+mod totals;
