@@ -11,6 +11,7 @@ use Rattle.entry.specs.declared.Entry.{Entry}
 use Rattle.ledger.specs.declared.Ledger.{Ledger}
 use Rattle.ledger.specs.Book.{Book, bookOf, view, free, rest, written, whole}
 
+-- all but the first are one fewer
 length-rest : (es : List Entry) → 0 < length es → length (rest es) + 1 ≡ length es
 length-rest [] h = absurd (omega (arith, h))
 length-rest (e ∷ es) h = add-one (length es)
@@ -31,12 +32,12 @@ pub whole-bookOf : (n : ℕ) (memory : List Entry) → whole (bookOf n memory) �
 whole-bookOf n memory = take-append-drop n memory
 
 -- the log is as long as the ledger's count of entries
-pub length-log : (l : Ledger) → length (view l .log) ≡ l .written
-length-log l = length-take-le (l .written) (vec-items (l .memory)) (omega (arith, l .inside, l .memory .ok .0))
+pub length-log : (l : Ledger) → length (view l .log) ≡ l .used
+length-log l = length-take-le (l .used) (vec-items (l .memory)) (omega (arith, l .inside, l .memory .ok .0))
 
 -- what is free is what the memory has beyond that count
-pub free-view : (l : Ledger) → free (view l) ≡ vec-len (l .memory) - l .written
-free-view l = length-drop (l .written) (vec-items (l .memory)) ∙ ap (λ n. n - l .written) (sym (l .memory .ok .0))
+pub free-view : (l : Ledger) → free (view l) ≡ vec-len (l .memory) - l .used
+free-view l = length-drop (l .used) (vec-items (l .memory)) ∙ ap (λ n. n - l .used) (sym (l .memory .ok .0))
 
 -- no ledger's log and free places pass 65,536 together
 pub log-free-bound : (l : Ledger) → length (view l .log) + free (view l) ≤ 65536

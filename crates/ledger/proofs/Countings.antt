@@ -25,8 +25,18 @@ countsOf-more es i d lt =
       rings = more isRing j;
     }
 
+-- one for a kind at which the test holds, else none
+abbrev one-if : Bool → Bool → Bool → Bool → Bool → Kind → ℕ
+one-if p s g w r k = cond (byKind p s g w r false k) 1 0
+
 -- no kind is counted twice
-kind-once : (k : Kind) → cond (byKind true false false false false false k) 1 0 + cond (byKind false true false false false false k) 1 0 + cond (byKind false false true false false false k) 1 0 + cond (byKind false false false true false false k) 1 0 + cond (byKind false false false false true false k) 1 0 ≤ 1
+kind-once : (k : Kind) →
+    one-if true false false false false k
+    + one-if false true false false false k
+    + one-if false false true false false k
+    + one-if false false false true false k
+    + one-if false false false false true k
+    ≤ 1
 kind-once poll = lit≤ tt
 kind-once skip = lit≤ tt
 kind-once registration = lit≤ tt

@@ -21,7 +21,7 @@ bookOf n memory = record { log = take n memory; blank = drop n memory }
 
 -- a ledger's book is that of its memory
 abbrev pub view : Ledger → Book
-view l = bookOf (l .written) (vec-items (l .memory))
+view l = bookOf (l .used) (vec-items (l .memory))
 
 -- memory makes a ledger if it has 1,024 to 65,536 entries
 abbrev pub rightSize : List Entry → Bool

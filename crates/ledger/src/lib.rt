@@ -19,8 +19,8 @@ pub const MOST_ENTRIES: usize = 65_536;
 #[derive(Drop)]
 pub struct Ledger {
     memory: Vec<Entry>,
-    written: usize,
-    ghost inside: { written ≤ vec-len memory },
+    used: usize,
+    ghost inside: { used ≤ vec-len memory },
     ghost enough: { 1024 ≤ vec-len memory },
     ghost bounded: { vec-len memory ≤ 65536 },
 }

@@ -4,7 +4,7 @@ ghost use mathlib.Core.Bool.{true};
 ghost use Rattle.std.specs.Of.Vec.{vec-items};
 ghost use Rattle.std.specs.Results.{isOk};
 ghost use Rattle.std.specs.Vec.{made, refused};
-ghost use Rattle.ledger.specs.Book.{Book, view, empty, whole, rightSize, wrongSizeNumber};
+ghost use Rattle.ledger.specs.Book.{view, empty, whole, rightSize, wrongSizeNumber};
 use crate::LEAST_ENTRIES;
 use crate::Ledger;
 use crate::MOST_ENTRIES;
@@ -35,7 +35,7 @@ impl Ledger {
         if memory.len() < LEAST_ENTRIES || memory.len() > MOST_ENTRIES {
             return Err(WrongSize { memory });
         }
-        Ok(Ledger { memory, written: 0 })
+        Ok(Ledger { memory, used: 0 })
     }
 
     // The memory: the entries written, then the old content of the places left.
@@ -43,7 +43,7 @@ impl Ledger {
         ensures items { λ r. ⌜ vec-items r ≡ whole (view self) ⌝ }
         ensures again { λ r. ⌜ rightSize (vec-items r) ≡ true ⌝ }
     {
-        let Ledger { memory, written: _ } = self;
+        let Ledger { memory, used: _ } = self;
         memory
     }
 }

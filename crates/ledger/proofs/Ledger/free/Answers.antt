@@ -1,3 +1,4 @@
+-- What is free, by the length of what is blank.
 use borrow.Author.Needs.{needs}
 use Rattle.ledger.proofs.Books.{free-view}
 use Rattle.ledger.proofs.Ledger.free.Needs as need

@@ -1,3 +1,4 @@
+-- One entry more in the first blank place.
 use mathlib.Core.Path.{ap, _∙_}
 use native.Mathlib.Omega.{arith}
 use borrow.Author.Needs.{needs}
@@ -17,8 +18,8 @@ ghost-self c = let places = free-view (c .args .self .now) in search needs
 pub returns : need.returns
 returns c =
     let ledger = c .args .self .now in
-    let inside : ledger .written < length (vec-items (ledger .memory)) = omega (arith, c .pre .room, free-view ledger, ledger .memory .ok .0) in
-    let after = bookOf-write (vec-items (ledger .memory)) (ledger .written) (c .args .entry) inside in
+    let inside : ledger .used < length (vec-items (ledger .memory)) = omega (arith, c .pre .room, free-view ledger, ledger .memory .ok .0) in
+    let after = bookOf-write (vec-items (ledger .memory)) (ledger .used) (c .args .entry) inside in
     record {
       state = after;
       left = ap (λ (b : Book). free b + 1) after ∙ free-written (c .args .entry) (view ledger) (c .pre .room);

@@ -1,3 +1,4 @@
+-- The counts are those of the entries read so far, and together not more than these.
 use mathlib.Core.Path.{_≡_}
 use Prim.Native.Nat.{_≤_}
 use lib.ListN.{take}
