@@ -1,0 +1,4 @@
+pub mod Book
+pub mod Counting
+pub mod Kinds
+pub mod Totals
