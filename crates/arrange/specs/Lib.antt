@@ -1,0 +1,5 @@
+pub mod Draws
+pub mod Order
+pub mod Shuffle
+pub mod SplitMix
+pub mod Tape

@@ -1,0 +1,36 @@
+// A tape of draws, written down beforehand.
+ghost use mathlib.Core.Path.{_≡_};
+ghost use mathlib.Core.List.{List};
+ghost use Prim.Native.Nat.{ℕ};
+ghost use Rattle.std.specs.Of.IntoIter.{into-iter-items};
+ghost use Rattle.std.specs.Of.Vec.{vec-items};
+ghost use Rattle.arrange.specs.Tape.{tape-rule};
+use crate::draws::Draws;
+use std::vec::IntoIter;
+
+// Draws what stands on it, from first to last, and then zeros.
+#[derive(Drop)]
+pub struct Tape {
+    draws: IntoIter<u64>,
+}
+
+impl Tape {
+    pub fn new(draws: Vec<u64>) -> Tape
+        ensures { λ r. ⌜ into-iter-items (r .draws) ≡ vec-items draws ⌝ }
+    {
+        Tape { draws: draws.into_iter() }
+    }
+}
+
+// A tape's value is the draws that are left on it.
+pub impl Draws for Tape as TapeDraws {
+    ghost Value = { List ℕ };
+
+    ghost value = { λ t. into-iter-items (t .draws) };
+
+    ghost rule = { tape-rule };
+
+    fn draw(&mut self) -> u64 {
+        self.draws.next().unwrap_or(0)
+    }
+}
