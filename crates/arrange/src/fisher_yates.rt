@@ -1,14 +1,15 @@
 // The shuffle of Fisher and Yates, over any items and any source of draws.
 ghost use mathlib.Core.Path.{_≡_};
-ghost use mathlib.Core.Bool.{Bool};
-ghost use Rattle.std.specs.shelf.Lists.{countBy};
 ghost use Rattle.std.specs.shelf.Sorted.{Shuffled};
+ghost use Rattle.arrange.specs.Order.{Equally-often};
 ghost use Rattle.arrange.specs.Shuffle.{deck, shuffled};
 use crate::draws::Draws;
 
 // Shuffles the items: from the last place down to place 1, each is swapped with a drawn place at or before it.
 pub fn shuffle<T, D: Draws>(items: &mut [T], source: &mut D)
-    ensures deals { λ _. ⌜ deck (value (now (source .exit))) (now (items .exit)) ≡ shuffled rule (deck (value (now (source .entry))) (now (items .entry))) ⌝ }
+    ensures order { λ _. ⌜ deck (value (now (source .exit))) (now (items .exit)) ≡ shuffled rule (deck (value (now (source .entry))) (now (items .entry))) ⌝ }
+    ensures same { λ _. ⌜ Shuffled (now (items .entry)) (now (items .exit)) ⌝ }
+    ensures often { λ _. ⌜ Equally-often (now (items .entry)) (now (items .exit)) ⌝ }
 {
     for i in (1..items.len()).rev() {
         let j = (source.draw() % (i as u64 + 1)) as usize;

@@ -1,5 +1,5 @@
 // The arranger that leaves the order.
-ghost use Rattle.arrange.specs.Order.{keep-rule};
+ghost use Rattle.arrange.specs.Order.{kept};
 use crate::arranger::Arranger;
 
 #[derive(Debug, Drop)]
@@ -10,7 +10,7 @@ pub impl<T> Arranger<T> for Keep as KeepArranger {
 
     ghost value = { λ _. tt };
 
-    ghost rule = { keep-rule };
+    ghost rule = { kept };
 
     fn arrange(&mut self, _items: &mut [T]) {}
 }
