@@ -6,7 +6,9 @@ use crate::draws::Draws;
 
 // 2^64 over the golden ratio, made odd: the state runs through every 64-bit number before it comes round.
 const GOLDEN_GAMMA: u64 = 0x9e3779b97f4a7c15;
+
 const FIRST_MULTIPLIER: u64 = 0xbf58476d1ce4e5b9;
+
 const SECOND_MULTIPLIER: u64 = 0x94d049bb133111eb;
 
 #[derive(Debug, Drop)]

@@ -17,7 +17,9 @@ impl Tape {
     pub fn new(draws: Vec<u64>) -> Tape
         ensures { λ r. ⌜ left r ≡ vec-items draws ⌝ }
     {
-        Tape { draws: draws.into_iter() }
+        Tape {
+            draws: draws.into_iter(),
+        }
     }
 }
 
