@@ -2,7 +2,8 @@
 ghost use Rattle.arrange.specs.Order.{kept};
 use crate::arranger::Arranger;
 
-#[derive(Debug, Drop)]
+// Items are dealt as they were queued. There is nothing to remember, so its value says nothing.
+#[derive(Drop)]
 pub struct Keep;
 
 pub impl<T> Arranger<T> for Keep as KeepArranger {

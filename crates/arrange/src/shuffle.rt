@@ -5,12 +5,14 @@ use crate::arranger::Arranger;
 use crate::draws::Draws;
 use crate::fisher_yates;
 
-#[derive(Debug, Drop)]
+// Shuffles what it is given by the next draws of its source; its value is the source's.
+#[derive(Drop)]
 pub struct Shuffle<D> {
     source: D,
 }
 
 impl<D> Shuffle<D> {
+    // The shuffle over a source of draws.
     pub fn new(source: D) -> Shuffle<D>
         ensures { λ r. ⌜ r .source ≡ source ⌝ }
     {

@@ -11,12 +11,14 @@ const FIRST_MULTIPLIER: u64 = 0xbf58476d1ce4e5b9;
 
 const SECOND_MULTIPLIER: u64 = 0x94d049bb133111eb;
 
-#[derive(Debug, Drop)]
+// The state is all that it remembers, and its value.
+#[derive(Drop)]
 pub struct SplitMix64 {
     state: u64,
 }
 
 impl SplitMix64 {
+    // The source that starts at this seed.
     pub fn seed_from_u64(seed: u64) -> SplitMix64
         ensures { λ r. ⌜ r .state ≡ seed ⌝ }
     {

@@ -8,12 +8,13 @@ use crate::draws::Draws;
 use std::vec::IntoIter;
 
 // Draws what stands on it, from first to last, and then zeros.
-#[derive(Debug, Drop)]
+#[derive(Drop)]
 pub struct Tape {
     draws: IntoIter<u64>,
 }
 
 impl Tape {
+    // The tape with these draws on it.
     pub fn new(draws: Vec<u64>) -> Tape
         ensures { λ r. ⌜ left r ≡ vec-items draws ⌝ }
     {

@@ -2,7 +2,7 @@
 use mathlib.Core.Path.{_≡_}
 use Prim.Native.Nat.{_-_}
 use Rattle.arrange.specs.Shuffle.{deck, swaps, shuffled}
-use Rattle.arrange.proofs.fisher_yates.shuffle.Given as given
+use Rattle.arrange.proofs.fisher_yates.swap_down.Given as given
 
 abbrev pub Inv-loop-i : given.InvT-loop-i
 Inv-loop-i g l =
