@@ -1,1 +1,2 @@
+pub mod Decks
 pub mod Often

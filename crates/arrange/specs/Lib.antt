@@ -1,3 +1,4 @@
+pub mod Deck
 pub mod Draws
 pub mod Order
 pub mod Shuffle

@@ -1,7 +1,7 @@
 -- The laws are those of a shuffled deck.
-use mathlib.Core.Path.{ap}
-use Rattle.arrange.specs.Shuffle.{Deck, deck, shuffled, shuffled-same}
-use Rattle.arrange.proofs.Often.{shuffled-is, often-shuffled}
+use Rattle.arrange.specs.Deck.{deck}
+use Rattle.arrange.proofs.Decks.{same-from-shuffled}
+use Rattle.arrange.proofs.Often.{often-shuffled}
 use Rattle.arrange.proofs.fisher_yates.shuffle.Needs as need
 
 pub returns : need.returns
@@ -9,7 +9,5 @@ returns g c =
     let d = g .D·Draws in
     let items = c .args .items .now in
     let after = c .swap-down .last .items in
-    let from = deck (d .value (c .args .source .now)) items in
-    let is = ap (λ (e : Deck (d .Value) (g .T .Denot)). e .items) (c .swap-down .ensures) in
-    let same = shuffled-is items after (shuffled (d .rule) from .items) is (shuffled-same (d .rule) from) in
+    let same = same-from-shuffled (d .rule) (deck (d .value (c .args .source .now)) items) (deck (d .value (c .swap-down .last .source)) after) (c .swap-down .ensures) in
     record { order = c .swap-down .ensures; same = same; often = often-shuffled items after same }

@@ -1,7 +1,7 @@
 -- What is left to swap, done from where the loop stands, gives the whole shuffle.
 use mathlib.Core.Path.{_≡_}
 use Prim.Native.Nat.{_-_}
-use Rattle.arrange.specs.Shuffle.{deck, swaps, shuffled}
+use Rattle.arrange.specs.Deck.{deck, swaps, shuffled}
 use Rattle.arrange.proofs.fisher_yates.swap_down.Given as given
 
 abbrev pub Inv-loop-i : given.InvT-loop-i
