@@ -1,2 +1,3 @@
 pub mod Decks
 pub mod Often
+pub mod Reach

@@ -2,6 +2,7 @@
 ghost use mathlib.Core.Path.{_≡_};
 ghost use Rattle.std.specs.shelf.Sorted.{Shuffled};
 ghost use Rattle.arrange.specs.Order.{Equally-often};
+ghost use Rattle.arrange.specs.Reach.{Every-order};
 ghost use Rattle.arrange.specs.Deck.{deck, shuffled};
 use crate::draws::Draws;
 
@@ -20,6 +21,7 @@ pub fn shuffle<T, D: Draws>(items: &mut [T], source: &mut D)
     ensures order { λ _. ⌜ deck (value (now (source .exit))) (now (items .exit)) ≡ shuffled rule (deck (value (now (source .entry))) (now (items .entry))) ⌝ }
     ensures same { λ _. ⌜ Shuffled (now (items .entry)) (now (items .exit)) ⌝ }
     ensures often { λ _. ⌜ Equally-often (now (items .entry)) (now (items .exit)) ⌝ }
+    ensures reach { λ _. ⌜ Every-order ⌝ }
 {
     swap_down(items, source);
 }
