@@ -10,6 +10,7 @@ pub record Deck (V T : Type 0) : Type 0 where
   pub value : V
   pub items : List T
 
+-- the deck of a value and items
 abbrev pub deck : {V T : Type 0} → V → List T → Deck V T
 deck v xs = record { value = v; items = xs }
 

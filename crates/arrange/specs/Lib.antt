@@ -1,3 +1,4 @@
+-- Draws, decks and orders. Assumes nothing.
 pub mod Deck
 pub mod Draws
 pub mod Order

@@ -2,7 +2,6 @@
 use mathlib.Core.Path.{_≡_}
 use mathlib.Core.Bool.{Bool, cond}
 use mathlib.Core.List.{List}
-use Prim.Native.Nat.{ℕ}
 use lib.Dec.{leb}
 use lib.ListN.{length}
 use Rattle.std.specs.shelf.Lists.{countBy}
@@ -24,6 +23,6 @@ pub record Order (V T : Type 0) (items : List T) : Type 0 where
 abbrev pub kept : {V T : Type 0} → V → (items : List T) → Order V T items
 kept v items = record { value = v; order = items; same = shuffled-refl items }
 
--- the arranger is asked where there are two items or more
+-- the arranger is asked where there are two items or more, and about fewer it is not
 abbrev pub asked : {V T : Type 0} → (V → (items : List T) → Order V T items) → V → (items : List T) → Order V T items
 asked rule v items = cond (leb 2 (length items)) (rule v items) (kept v items)

@@ -11,9 +11,13 @@ low64 n = n % 2 ^ 64
 abbrev pub folded-down : ℕ → ℕ → ℕ
 folded-down bits z = bitXor z (z / 2 ^ bits)
 
+-- the low 64 bits of such a number's product with a multiplier
+abbrev pub multiplied : ℕ → ℕ → ℕ → ℕ
+multiplied bits multiplier z = low64 (folded-down bits z * multiplier)
+
 -- the draw that a state gives
 abbrev pub mixed : ℕ → ℕ
-mixed s = folded-down 31 (low64 (folded-down 27 (low64 (folded-down 30 s * 0xbf58476d1ce4e5b9)) * 0x94d049bb133111eb))
+mixed s = folded-down 31 (multiplied 27 0x94d049bb133111eb (multiplied 30 0xbf58476d1ce4e5b9 s))
 
 -- the state moves on by the golden gamma, and the new state gives the draw
 abbrev pub split-rule : ℕ → Drawn ℕ

@@ -1,9 +1,9 @@
 // The shuffle of Fisher and Yates, over any items and any source of draws.
 ghost use mathlib.Core.Path.{_≡_};
 ghost use Rattle.std.specs.shelf.Sorted.{Shuffled};
+ghost use Rattle.arrange.specs.Deck.{deck, shuffled};
 ghost use Rattle.arrange.specs.Order.{Equally-often};
 ghost use Rattle.arrange.specs.Reach.{Every-order};
-ghost use Rattle.arrange.specs.Deck.{deck, shuffled};
 use crate::draws::Draws;
 
 // From the last place down to place 1, swaps each place with a drawn one at or before it.
