@@ -5,8 +5,8 @@ ghost use Rattle.tokens.specs.Tokens.{named, tokensOf, Spelled};
 ghost use Rattle.std.specs.Options.{okOr};
 ghost use Rattle.tokens.specs.declared.token.LineFault.the-variants.{NoForm};
 use crate::number::is_number;
-use crate::piece::split_piece;
 use crate::piece::Piece;
+use crate::piece::split_piece;
 use crate::token::LineFault;
 use crate::token::Token;
 
@@ -21,7 +21,11 @@ pub struct Tokens<'a> {
 fn named_token<'a>(word: &'a [u8]) -> Token<'a>
     ensures { λ r. ⌜ markOf r ≡ named (now (word .entry)) ⌝ }
 {
-    if is_number(word) { Token::Number(word) } else { Token::Word(word) }
+    if is_number(word) {
+        Token::Number(word)
+    } else {
+        Token::Word(word)
+    }
 }
 
 // The token that a piece is where a form or a word may begin.
@@ -65,7 +69,10 @@ impl<'a> Tokens<'a> {
         ensures ahead { λ r. ⌜ ahead r ≡ tokensOf (now (line .entry)) ⌝ }
         ensures spelled { λ _. ⌜ Spelled (now (line .entry)) ⌝ }
     {
-        Tokens { rest: line, begun: true }
+        Tokens {
+            rest: line,
+            begun: true,
+        }
     }
 
     // The next token, or none at the line's end; what is no token in its place is refused, and stays ahead.

@@ -84,7 +84,11 @@ fn split_minus(bytes: &[u8]) -> (bool, &[u8])
 fn with_sign(minus: bool, magnitude: u64) -> i128
     ensures { λ r. ⌜ r ≡ withSign minus magnitude ⌝ }
 {
-    if minus { -(magnitude as i128) } else { magnitude as i128 }
+    if minus {
+        -(magnitude as i128)
+    } else {
+        magnitude as i128
+    }
 }
 
 // The signed number that the bytes write, where it is from - most - 1 to most.
