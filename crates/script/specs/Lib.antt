@@ -1,0 +1,8 @@
+pub mod Faults
+pub mod Forms
+pub mod Lines
+pub mod Meaning
+pub mod Reading
+pub mod Reads
+pub mod Spelled
+pub mod Views
