@@ -3,4 +3,5 @@ pub mod cursor;
 pub mod expected;
 pub mod number;
 mod piece;
+pub mod same;
 pub mod token;

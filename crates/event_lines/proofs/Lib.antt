@@ -1,0 +1,3 @@
+-- Lemmas of the lines of events.
+mod Ahead
+mod Reading

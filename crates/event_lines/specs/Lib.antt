@@ -1,0 +1,4 @@
+-- Definitions of the lines of events.
+pub mod Lines
+pub mod Said
+pub mod Views
