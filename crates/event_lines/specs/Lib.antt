@@ -2,3 +2,5 @@
 pub mod Lines
 pub mod Said
 pub mod Views
+pub mod Told
+pub mod Outcomes

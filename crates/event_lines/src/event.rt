@@ -20,3 +20,10 @@ pub enum Trouble {
     // Its stop value is no signed number of 32 bits.
     NoValue,
 }
+
+// The first line that is no event; lines count from 1.
+#[derive(Clone, Copy)]
+pub struct Misread {
+    pub line: usize,
+    pub trouble: Trouble,
+}

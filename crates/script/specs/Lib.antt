@@ -1,6 +1,5 @@
 pub mod Faults
 pub mod Forms
-pub mod Lines
 pub mod Meaning
 pub mod Reading
 pub mod Reads

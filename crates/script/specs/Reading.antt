@@ -18,7 +18,7 @@ use Rattle.script.specs.declared.form.Setting.{Setting}
 use Rattle.script.specs.declared.form.Setting.the-variants.{Cycle, Start, Timeout, Catch}
 use Rattle.script.specs.Faults.{at}
 use Rattle.script.specs.Forms.{formOf}
-use Rattle.script.specs.Lines.{Text, textOf}
+use Rattle.lines.specs.Lines.{Text, textOf}
 use Rattle.script.specs.Meaning.{Act, sleep, spawn, wake, abort, stop, await, done, fault, Task, Plan, Says, setting, task}
 
 -- no script has more bytes, no script more tasks, and no task more steps

@@ -1,5 +1,5 @@
--- How the bytes of a script fall into lines. Assumes nothing.
-use mathlib.Core.Bool.{cond}
+-- How bytes fall into lines: LF ends a line.
+use mathlib.Core.Bool.{Bool, cond, not}
 use mathlib.Core.List.{List, [], _∷_, _++_}
 use Prim.Native.Nat.{ℕ}
 use lib.Dec.{eqb}
@@ -27,3 +27,15 @@ textOf (b ∷ bs) = begunBy b (textOf bs)
 unfoldable pub bytesOf : List (List ℕ) → List ℕ
 bytesOf [] = []
 bytesOf (l ∷ ls) = l ++ (10 ∷ bytesOf ls)
+
+-- a line before a text
+abbrev pub withLine : List ℕ → Text → Text
+withLine l t = record { lines = l ∷ t .lines; rest = t .rest }
+
+-- no line is ended
+abbrev pub unended : List ℕ → Text
+unended bs = record { lines = []; rest = bs }
+
+-- the byte does not end a line
+abbrev pub inLine : ℕ → Bool
+inLine b = not (eqb b 10)
