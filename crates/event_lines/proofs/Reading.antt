@@ -80,7 +80,7 @@ poll-said ms e same =
     let digits = andThen-is (firstNumber ms) (naturalOf 64) (parts .0) (parts .3) in
     let tokens : ms ≡ number (digits .0) ∷ parts .2 ∷ closing ∷ [] = number-is ms (digits .0) (digits .1) ∙ ap (λ (rest : List Mark). number (digits .0) ∷ rest) (parts .4) in
     subst (λ (x : Event). Says x (opening ∷ word (codes "process_task") ∷ ms)) (parts .6)
-      (digits .0, parts .2, ap (λ (rest : List Mark). opening ∷ word (codes "process_task") ∷ rest) tokens, digits .2, parts .5)
+    (digits .0, parts .2, ap (λ (rest : List Mark). opening ∷ word (codes "process_task") ∷ rest) tokens, digits .2, parts .5)
 
 -- a stop, after its name
 stop-said : (ms : List Mark) (e : Event) → asked (andThen (firstNumber ms) (integerOf 32)) (later ms) ≡ is-event e → Says e (opening ∷ word (codes "stop") ∷ ms)
@@ -89,7 +89,7 @@ stop-said ms e same =
     let digits = andThen-is (firstNumber ms) (integerOf 32) (parts .0) (parts .1) in
     let tokens : ms ≡ number (digits .0) ∷ closing ∷ [] = number-is ms (digits .0) (digits .1) ∙ ap (λ (rest : List Mark). number (digits .0) ∷ rest) (parts .2) in
     subst (λ (x : Event). Says x (opening ∷ word (codes "stop") ∷ ms)) (parts .3)
-      (digits .0, ap (λ (rest : List Mark). opening ∷ word (codes "stop") ∷ rest) tokens, digits .2)
+    (digits .0, ap (λ (rest : List Mark). opening ∷ word (codes "stop") ∷ rest) tokens, digits .2)
 
 -- a stop signal, after its name
 stopped-said : (ms : List Mark) (e : Event) → closedAs stopped ms ≡ is-event e → Says e (opening ∷ word (codes "stopped") ∷ ms)
@@ -104,10 +104,10 @@ by-name name keyword ms e same said = subst (λ (w : List ℕ). Says e (opening 
 event-said : (name : List ℕ) (ms : List Mark) (e : Event) → eventBy name ms ≡ is-event e → Says e (opening ∷ word name ∷ ms)
 event-said name ms e same =
     tested (sameBytes name (codes "process_task")) _ _ e _ same
-      (λ is so. by-name name (codes "process_task") ms e is (poll-said ms e so))
-      (λ _ so. tested (sameBytes name (codes "stop")) _ _ e _ so
-        (λ is so. by-name name (codes "stop") ms e is (stop-said ms e so))
-        (λ _ so. let p = passed (sameBytes name (codes "stopped")) (closedAs stopped ms) e so in by-name name (codes "stopped") ms e (p .0) (stopped-said ms e (p .1))))
+    (λ is so. by-name name (codes "process_task") ms e is (poll-said ms e so))
+    (λ _ so. tested (sameBytes name (codes "stop")) _ _ e _ so
+    (λ is so. by-name name (codes "stop") ms e is (stop-said ms e so))
+    (λ _ so. let p = passed (sameBytes name (codes "stopped")) (closedAs stopped ms) e so in by-name name (codes "stopped") ms e (p .0) (stopped-said ms e (p .1))))
 
 named-said : (o : Option (List ℕ)) (ms : List Mark) (e : Event) → firstWord ms ≡ o → eventNamed o (later ms) ≡ is-event e → Says e (opening ∷ ms)
 named-said None ms e is same = absurd (err-ok NoEvent e same)

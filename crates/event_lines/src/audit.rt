@@ -50,3 +50,65 @@ fn push_line(text: &mut Vec<u8>, digest: Digest, line: &[u8]) -> Result<(), Allo
     text.push(b'\n')?;
     Ok(())
 }
+
+// Reads a line, tells the auditor its event and adds what is told of it; or answers what is wrong with it.
+fn audit_line(
+    auditor: &mut Auditor,
+    text: &mut Vec<u8>,
+    line: &[u8],
+) -> Result<Option<Trouble>, AllocError>
+    ensures answer { λ r. ⌜ made r (λ t. t ≡ troubleBy (eventOf (now (line .entry)))) ⌝ }
+    ensures digest { λ r. ⌜ made r (λ _. now (auditor .exit) .digest ≡ digestBy (eventOf (now (line .entry))) (now (auditor .entry) .digest)) ⌝ }
+    ensures text { λ r. ⌜ made r (λ _. vec-items (now (text .exit)) ≡ vec-items (now (text .entry)) ++ toldBy (eventOf (now (line .entry))) (now (auditor .entry) .digest) (now (line .entry))) ⌝ }
+{
+    match read_event(line) {
+        Ok(event) => {
+            tell(auditor, event);
+            push_line(text, auditor.digest(), line)?;
+            Ok(None)
+        }
+        Err(trouble) => Ok(Some(trouble)),
+    }
+}
+
+// The next line and the bytes after it; the last line may lack its LF.
+fn next_line(bytes: &[u8]) -> Option<(&[u8], &[u8])>
+    ensures cases { λ r. ⌜ Cases r (linesOf (now (bytes .entry)) ≡ []) (λ p. linesOf (now (bytes .entry)) ≡ now (p .0) ∷ linesOf (now (p .1))) ⌝ }
+    ensures shorter { λ r. ⌜ Cases r (Unit {0}) (λ p. length (now (p .1)) < length (now (bytes .entry))) ⌝ }
+{
+    if let Some(cut) = split_line(bytes) {
+        return Some(cut);
+    }
+    if bytes.is_empty() {
+        return None;
+    }
+    Some((bytes, &[]))
+}
+
+// What the audit tells of the whole input: a line for each event, up to the first line that is none.
+pub fn audit_input(heap: Global, input: &[u8]) -> Result<Audited, AllocError>
+    ensures { λ r. ⌜ made r (λ a. outcomeOf a ≡ audited (now (input .entry))) ⌝ }
+{
+    let mut auditor = Auditor::new();
+    let mut text = Vec::new(heap);
+    let mut rest = input;
+    let mut line_number: usize = 1;
+    while let Some((line, after)) = next_line(rest) {
+        if let Some(trouble) = audit_line(&mut auditor, &mut text, line)? {
+            let misread = Misread {
+                line: line_number,
+                trouble,
+            };
+            return Ok(Audited {
+                text,
+                misread: Some(misread),
+            });
+        }
+        rest = after;
+        line_number += 1;
+    }
+    Ok(Audited {
+        text,
+        misread: None,
+    })
+}

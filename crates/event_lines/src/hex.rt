@@ -9,7 +9,11 @@ fn hex_digit(number: u8) -> u8
     requires { ⌜ number < 16 ⌝ }
     ensures { λ r. ⌜ r ≡ hexDigit number ⌝ }
 {
-    if number < 10 { b'0' + number } else { b'a' - 10 + number }
+    if number < 10 {
+        b'0' + number
+    } else {
+        b'a' - 10 + number
+    }
 }
 
 // A digest in eight digits.

@@ -7,5 +7,5 @@ pub returns : need.returns
 returns c =
     record {
       value = c .read-tokens .ensures ∙ ap eventIn (c .new-tokens .ensures .ahead);
-      exact = event-exact (c .args .line .now)
+      exact = event-exact (c .args .line .now);
     }
