@@ -1,0 +1,5 @@
+-- Lemmas of the lines of events.
+mod Ahead
+mod Digits
+mod Reading
+mod Telling

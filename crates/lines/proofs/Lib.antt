@@ -1,0 +1,2 @@
+-- Lemmas of lines.
+mod Cuts

@@ -1,0 +1,2 @@
+-- Definitions of lines.
+pub mod Lines

@@ -1,0 +1,25 @@
+-- The number, the layer and the line of each refusal of a script. Assumes nothing.
+use Prim.Native.Nat.{ℕ}
+use Rattle.script.specs.declared.fault.Fault.{Fault}
+use Rattle.script.specs.declared.fault.Layer.{Layer}
+use Rattle.script.specs.declared.fault.Layer.the-variants.{Reader, Script}
+use Rattle.script.specs.declared.fault.Reason.{Reason}
+use Rattle.script.specs.declared.fault.Reason.the-variants.{TooLong, NoForm, TooMany, Name}
+
+-- the number that a reason has
+abbrev pub numberOf : Reason → ℕ
+numberOf TooLong = 18
+numberOf NoForm = 19
+numberOf TooMany = 20
+numberOf Name = 21
+
+-- the layer that refuses for a reason
+abbrev pub layerOf : Reason → Layer
+layerOf TooLong = Reader
+layerOf NoForm = Reader
+layerOf TooMany = Script
+layerOf Name = Script
+
+-- a refusal at a line
+abbrev pub at : ℕ → Reason → Fault
+at n why = record { line = n; reason = why }

@@ -1,0 +1,3 @@
+// Scripts: their forms, how a whole script is read, and how it is printed.
+pub mod fault;
+pub mod form;

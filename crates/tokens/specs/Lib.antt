@@ -1,0 +1,4 @@
+pub mod Numbers
+pub mod Tokens
+pub mod Cursor
+pub mod Expected

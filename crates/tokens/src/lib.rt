@@ -1,0 +1,7 @@
+// The tokens of a script's line, and the numbers that its words write.
+pub mod cursor;
+pub mod expected;
+pub mod number;
+mod piece;
+pub mod same;
+pub mod token;
