@@ -1,0 +1,5 @@
+use Rattle.alarms.proofs.Ringing.{earliest-so}
+use Rattle.alarms.proofs.Alarms.earliest.Needs as need
+
+pub returns : need.returns
+returns c = record { answer = c .first-time .ensures; least = earliest-so _ _ _ (c .args .self .now .order) (c .first-time .ensures) }
