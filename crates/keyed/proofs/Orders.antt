@@ -55,6 +55,14 @@ module _ {X : Type 0} (key : X → ℕ) where
       let e : key (cond (eqb (key x) k) (f x) x) ≡ key x = cond-both (eqb (key x) k) (f x) x (λ (n : X). key n ≡ key x) (λ _. same x) (λ _. refl) in
       rw e (and-from _ _ (p .0) (ordered-change f same (suc (key x)) hi k xs (p .1)))
 
+  -- another record with the key takes the place of the one that has it
+  pub ordered-put : (y : X) (lo hi : ℕ) (xs : List X) → ordered key lo hi xs ≡ true → ordered key lo hi (change key (λ _. y) (key y) xs) ≡ true
+  ordered-put y lo hi [] o = o
+  ordered-put y lo hi (x ∷ xs) o =
+    let p = and-parts (leb lo (key x)) (ordered key (suc (key x)) hi xs) o in
+    let e : key (cond (eqb (key x) (key y)) y x) ≡ key x = cond-both (eqb (key x) (key y)) y x (λ (n : X). key n ≡ key x) (λ t. sym (eqb-true (key x) (key y) t)) (λ _. refl) in
+    rw e (and-from _ _ (p .0) (ordered-put y (suc (key x)) hi xs (p .1)))
+
   pub ordered-without : (lo hi k : ℕ) (xs : List X) → ordered key lo hi xs ≡ true → ordered key lo hi (without key k xs) ≡ true
   ordered-without lo hi k [] o = o
   ordered-without lo hi k (x ∷ xs) o =
