@@ -1,21 +1,18 @@
 -- What rings and what stays, of alarms in ringing order.
-use mathlib.Core.Path.{_≡_, refl, sym, ap, _∙_}
-use mathlib.Core.Bool.{Bool, true, false, cond, not}
+use mathlib.Core.Path.{_≡_, refl, ap}
+use mathlib.Core.Bool.{true}
 use mathlib.Core.List.{List, [], _∷_}
-use mathlib.Core.Logic.{_⊎_, inl, inr, ⊎-elim}
-use Prim.Native.Nat.{ℕ, suc, _+_, _<_, _≤_}
+use mathlib.Core.Logic.{inl, ⊎-elim}
+use Prim.Native.Nat.{ℕ, _<_, _≤_}
 use native.Mathlib.Omega.{arith}
-use lib.Dec.{eqb, leb}
-use lib.ListN.{length}
-use Rattle.std.specs.shelf.Lists.{All, Has, kept-by}
+use lib.Dec.{leb}
+use Rattle.std.specs.shelf.Lists.{All}
 use Rattle.std.specs.declared.option.Option.{Option}
-use Rattle.std.specs.declared.option.Option.the-variants.{Some, None}
-use Rattle.std.proofs.shelf.Elements.{has-getD}
 use Rattle.std.proofs.shelf.Tests.{and-parts, lt-leb, leb-true, leb-false, cases-bool}
 use Rattle.alarms.specs.declared.Alarm.{Alarm}
 use Rattle.alarms.specs.Order.{before, leads, ordered}
-use Rattle.alarms.specs.Model.{earliest, first-due, without-first-due, found}
-use Rattle.alarms.specs.Laws.{due, later, Rings, Earliest, Finds}
+use Rattle.alarms.specs.Model.{earliest, first-due, without-first-due}
+use Rattle.alarms.specs.Laws.{due, later, Rings, Earliest}
 use Rattle.alarms.proofs.Orders.{first-of, leads-all, before-time}
 
 -- alarms led by one that is not due are not due
@@ -51,7 +48,7 @@ earliest-at : (next : ℕ) (xs : List Alarm) → ordered next xs ≡ true → Ea
 earliest-at next [] o = refl
 earliest-at next (a ∷ more) o =
     let f = first-of next a more o in
-    record { alarm = a; stands = has-getD (a ∷ more) 0 a (omega arith); at = refl; least = (omega arith, all-from a more (f .leading)) }
+    record { alarm = a; stands = inl refl; at = refl; least = (omega arith, all-from a more (f .leading)) }
 
 pub earliest-so : (next : ℕ) (xs : List Alarm) (r : Option ℕ) → ordered next xs ≡ true → r ≡ earliest xs → Earliest xs r
 earliest-so next xs r o answer = rw answer (earliest-at next xs o)

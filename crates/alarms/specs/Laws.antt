@@ -6,11 +6,12 @@ use mathlib.Core.Logic.{_⊎_}
 use Prim.Native.Nat.{ℕ, suc, _<_, _≤_}
 use lib.Dec.{leb}
 use lib.ListN.{length}
-use Rattle.std.specs.shelf.Lists.{All, Has, kept-by}
+use Rattle.std.specs.shelf.Lists.{All, kept-by}
 use Rattle.std.specs.declared.option.Option.{Option}
 use Rattle.std.specs.declared.option.Option.the-variants.{Some, None}
 use Rattle.std.specs.declared.result.Result.{Result}
 use Rattle.std.specs.declared.result.Result.the-variants.{Ok, Err}
+use Rattle.keyed.specs.Members.{In}
 use Rattle.alarms.specs.declared.Alarm.{Alarm}
 use Rattle.alarms.specs.declared.Full.{Full}
 use Rattle.alarms.specs.Order.{most-alarms}
@@ -50,7 +51,7 @@ Rings now standing rest (Some a) = Rings-first now standing rest a
 -- a time is the least: an alarm stands for it, and none stands for an earlier one
 pub record Least (standing : List Alarm) (t : ℕ) : Type 0 where
   pub alarm : Alarm
-  pub stands : Has standing alarm
+  pub stands : In alarm standing
   pub at : alarm .time ≡ t
   pub least : All (λ a. t ≤ a .time) standing
 
@@ -71,5 +72,5 @@ Arms was is (Err full) = (most-alarms ≤ length (was .alarms)) × (is ≡ was)
 
 -- a search by serial finds an alarm that stands and has it, and none only if no alarm that stands has it
 abbrev pub Finds : ℕ → List Alarm → Option Alarm → Type 0
-Finds serial standing None = All (λ a. a .serial ≡ serial → ⊥) standing
-Finds serial standing (Some a) = Has standing a × (a .serial ≡ serial)
+Finds serial standing None = (a : Alarm) → In a standing → a .serial ≡ serial → ⊥
+Finds serial standing (Some a) = In a standing × (a .serial ≡ serial)

@@ -9,6 +9,7 @@ use Rattle.std.specs.declared.option.Option.{Option}
 use Rattle.std.specs.declared.option.Option.the-variants.{Some, None}
 use Rattle.std.specs.declared.result.Result.{Result}
 use Rattle.std.specs.declared.result.Result.the-variants.{Ok, Err}
+use Rattle.keyed.specs.Members.{first}
 use Rattle.alarms.specs.declared.Alarm.{Alarm}
 use Rattle.alarms.specs.declared.Alarms.{Alarms}
 use Rattle.alarms.specs.declared.Full.{Full}
@@ -71,10 +72,13 @@ without-first-due now (a ∷ more) = cond (leb (a .time) now) more (a ∷ more)
 abbrev pub rung : ℕ → Bells → Bells
 rung now B = record { alarms = without-first-due now (B .alarms); next = B .next }
 
+-- an alarm has a serial
+abbrev pub has-serial : ℕ → Alarm → Bool
+has-serial serial a = eqb (a .serial) serial
+
 -- the alarm with a serial, if it stands
 abbrev pub found : ℕ → List Alarm → Option Alarm
-found serial [] = None
-found serial (a ∷ more) = cond (eqb (a .serial) serial) (Some a) (found serial more)
+found serial = first (has-serial serial)
 
 -- an alarm is for a task at a time
 abbrev pub is-for : ℕ → ℕ → Option Alarm → Bool

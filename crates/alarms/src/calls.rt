@@ -7,7 +7,7 @@ ghost use lib.ListN.{length, take, drop};
 ghost use Rattle.std.specs.Of.Vec.{vec-items, vec-len, vec-cap};
 ghost use Rattle.std.specs.Vec.{made};
 ghost use Rattle.alarms.specs.Order.{most-alarms};
-ghost use Rattle.alarms.specs.Model.{view, silent, placed, added, armed, arm-answer, earliest, first-due, rung, found, is-for};
+ghost use Rattle.alarms.specs.Model.{view, silent, placed, added, armed, arm-answer, earliest, first-due, rung, has-serial, found, is-for};
 ghost use Rattle.alarms.specs.Laws.{Arms, Earliest, Rings, Finds};
 use crate::Alarm;
 use crate::Alarms;
@@ -22,6 +22,13 @@ impl Alarm {
         ensures { λ r. ⌜ r ≡ ltb (now (self .entry) .time) (now (other .entry) .time) ⌝ }
     {
         self.time < other.time
+    }
+
+    // Whether this is the alarm that got the serial at its arming.
+    fn has_serial(&self, serial: u64) -> bool
+        ensures { λ r. ⌜ r ≡ has-serial serial (now (self .entry)) ⌝ }
+    {
+        self.serial == serial
     }
 }
 
@@ -126,7 +133,7 @@ impl Alarms {
         ensures stands { λ r. ⌜ Finds serial (view (now (self .entry)) .alarms) r ⌝ }
     {
         for alarm in self.standing.iter() {
-            if alarm.serial == serial {
+            if alarm.has_serial(serial) {
                 return Some(*alarm);
             }
         }
