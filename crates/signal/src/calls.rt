@@ -17,7 +17,6 @@ ghost use Rattle.signal.specs.Switch.{stop-value};
 ghost use Rattle.signal.specs.Complete.{complete-with};
 ghost use Rattle.signal.specs.Model.{view, woken-by, unstopped, entered, given, signal-answer, awaiting, stopped-by, stop-wakes, completed-answer, asking, let-go, ended, completion-wakes};
 ghost use Rattle.signal.specs.Laws.{Keeps, Stop-wakes, Completion-wakes};
-
 use crate::Poll;
 use crate::Refusal;
 use crate::Stopper;
@@ -53,7 +52,12 @@ impl Stopper {
     {
         let woken = Vec::with_capacity(heap, MOST_TASKS)?;
         let roster = Roster::new(heap)?;
-        Ok(Stopper { switch: Switch::new(), completion: OneShot::new(), roster, woken })
+        Ok(Stopper {
+            switch: Switch::new(),
+            completion: OneShot::new(),
+            roster,
+            woken,
+        })
     }
 
     // Registers a task, whose id is above those registered before.
@@ -80,6 +84,7 @@ impl Stopper {
     pub fn signal(&mut self, task: u64) -> Result<Poll<i32>, Refusal>
         ensures answer { λ r. ⌜ r ≡ signal-answer task (view (now (self .entry))) ⌝ }
         ensures state { λ _. ⌜ view (now (self .exit)) ≡ awaiting task (view (now (self .entry))) ⌝ }
+        ensures keeps { λ _. ⌜ Keeps (view (now (self .entry))) (view (now (self .exit))) ⌝ }
     {
         if !self.roster.holds(task) {
             return Err(Refusal::NoSignal);
@@ -103,7 +108,12 @@ impl Stopper {
     {
         match self.switch.handle(Call::Stop(value)) {
             Said::First => {
-                settle(&self.switch, &self.roster, &mut self.completion, &mut self.woken);
+                settle(
+                    &self.switch,
+                    &self.roster,
+                    &mut self.completion,
+                    &mut self.woken,
+                );
                 self.roster.list(Whom::Waiting, &mut self.woken);
             }
             _ => self.woken.clear(),
@@ -114,6 +124,7 @@ impl Stopper {
     pub fn completed(&mut self, task: u64) -> Result<Poll<()>, Refusal>
         ensures answer { λ r. ⌜ r ≡ completed-answer (view (now (self .entry))) ⌝ }
         ensures state { λ _. ⌜ view (now (self .exit)) ≡ asking task (view (now (self .entry))) ⌝ }
+        ensures keeps { λ _. ⌜ Keeps (view (now (self .entry))) (view (now (self .exit))) ⌝ }
     {
         if !self.switch.is_stopped() {
             return Err(Refusal::NotStopped);
@@ -133,7 +144,12 @@ impl Stopper {
         ensures wakes { λ _. ⌜ Completion-wakes (view (now (self .entry))) (view (now (self .exit))) (woken-by (now (self .exit))) ⌝ }
     {
         self.roster.turn(Step::LetGo, task);
-        settle(&self.switch, &self.roster, &mut self.completion, &mut self.woken);
+        settle(
+            &self.switch,
+            &self.roster,
+            &mut self.completion,
+            &mut self.woken,
+        );
     }
 
     // The task ends: its signal goes, and it is woken no more. With the last open signal after the stop completion comes.
@@ -144,7 +160,12 @@ impl Stopper {
         ensures wakes { λ _. ⌜ Completion-wakes (view (now (self .entry))) (view (now (self .exit))) (woken-by (now (self .exit))) ⌝ }
     {
         self.roster.strike(task);
-        settle(&self.switch, &self.roster, &mut self.completion, &mut self.woken);
+        settle(
+            &self.switch,
+            &self.roster,
+            &mut self.completion,
+            &mut self.woken,
+        );
     }
 
     // Whom the last stop, letting go or end of a task woke, by ascending id.

@@ -8,7 +8,6 @@ ghost use Rattle.roster.specs.Row.{most-tasks};
 ghost use Rattle.roster.specs.Model.{view as roll-of};
 ghost use Rattle.signal.specs.Switch.{stop-value};
 ghost use Rattle.signal.specs.Complete.{complete-with};
-
 use oneshot::OneShot;
 use roster::Roster;
 use switch::Switch;

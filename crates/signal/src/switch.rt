@@ -3,7 +3,6 @@ ghost use mathlib.Core.Path.{_≡_};
 ghost use Rattle.std.specs.Options.{isSome};
 ghost use Rattle.oneshot.specs.Cell.{held};
 ghost use Rattle.signal.specs.Phase.{is-stopped};
-
 use oneshot::OneShot;
 
 mod turns;

@@ -4,7 +4,6 @@ ghost use Rattle.std.specs.Options.{isSome};
 ghost use Rattle.std.specs.declared.option.Option.the-variants.{None};
 ghost use Rattle.signal.specs.Phase.{said, value-after, offered};
 ghost use Rattle.signal.specs.Switch.{stop-value};
-
 use super::Call;
 use super::Phase;
 use super::Said;
@@ -17,7 +16,10 @@ impl Switch {
     pub fn new() -> Switch
         ensures { λ r. ⌜ stop-value r ≡ None ⌝ }
     {
-        Switch { phase: Phase::Running, value: OneShot::new() }
+        Switch {
+            phase: Phase::Running,
+            value: OneShot::new(),
+        }
     }
 
     // The phase and the call decide together; the first stop value stays.
