@@ -1,14 +1,14 @@
 -- Ringing order, and what an arming keeps of it.
-use mathlib.Core.Path.{_≡_, refl, sym, ap, _∙_}
-use mathlib.Core.Bool.{Bool, true, false, cond, _&&_, _||_}
+use mathlib.Core.Path.{_≡_, refl, _∙_}
+use mathlib.Core.Bool.{Bool, true, cond, _&&_, _||_}
 use mathlib.Core.List.{List, [], _∷_}
-use mathlib.Core.Logic.{_⊎_, inl, inr, ⊎-elim}
-use Prim.Native.Nat.{ℕ, suc, _+_, _<_, _≤_}
+use mathlib.Core.Logic.{_⊎_, ⊎-elim}
+use Prim.Native.Nat.{ℕ, _+_, _<_, _≤_}
 use native.Mathlib.Omega.{arith}
 use lib.Dec.{eqb, leb, ltb}
 use Rattle.std.specs.shelf.Lists.{All}
 use Rattle.std.proofs.shelf.Ways.{tells}
-use Rattle.std.proofs.shelf.Tests.{and-parts, and-from, leb-true, leb-false, ltb-true, lt-ltb, cases-bool, cond-both}
+use Rattle.std.proofs.shelf.Tests.{and-parts, and-from, leb-true, leb-false, ltb-true, lt-ltb, cond-both}
 use Rattle.alarms.specs.declared.Alarm.{Alarm}
 use Rattle.alarms.specs.Order.{before, leads, ordered}
 use Rattle.alarms.specs.Model.{Bells, silent, placed, added, armed, has-room, alarm-of, rung, without-first-due}

@@ -9,7 +9,6 @@ use Rattle.std.specs.shelf.Lists.{All, kept-by}
 use Rattle.std.specs.declared.option.Option.the-variants.{Some}
 use Rattle.std.proofs.shelf.Elements.{kept-by-more, all-weaker}
 use Rattle.std.proofs.shelf.Lists.{map-append, take-all}
-use Rattle.std.proofs.shelf.Tests.{cond-both}
 use Rattle.keyed.specs.Keyed.{ordered, find, known}
 use Rattle.keyed.proofs.Orders.{ordered-first, ordered-push-above}
 use Rattle.keyed.proofs.Places.{find-none}

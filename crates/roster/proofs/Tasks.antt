@@ -14,7 +14,7 @@ use Rattle.roster.specs.declared.row.Row.{Row}
 use Rattle.roster.specs.declared.row.Signal.{Signal}
 use Rattle.roster.specs.declared.row.Signal.the-variants.{Absent, Open, Awaited, Closed}
 use Rattle.roster.specs.declared.row.Step.{Step}
-use Rattle.roster.specs.declared.row.Step.the-variants.{TakeOpen, TakeClosed, Await, LetGo, AskCompletion}
+use Rattle.roster.specs.declared.row.Step.the-variants.{TakeClosed, Await, LetGo, AskCompletion}
 use Rattle.roster.specs.declared.row.Whom.{Whom}
 use Rattle.roster.specs.Row.{task-of, fresh, stepped, is-open, listens}
 use Rattle.roster.specs.Model.{Roll, entered, turned, departed, some-open, called}

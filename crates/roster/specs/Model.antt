@@ -1,5 +1,5 @@
 -- What a roster stands for, and what each call makes of it and answers.
-use mathlib.Core.Bool.{Bool, true, false}
+use mathlib.Core.Bool.{Bool, false}
 use mathlib.Core.List.{List, [], _∷_, _++_, map}
 use Prim.Native.Nat.{ℕ, _+_, _<_}
 use Rattle.std.specs.Of.Vec.{vec-items}

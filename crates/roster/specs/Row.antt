@@ -56,18 +56,21 @@ asked-after AskCompletion a = true
 abbrev pub stepped : Step → Row → Row
 stepped step r = record { task = r .task; signal = signal-after step (r .signal); asked = asked-after step (r .asked) }
 
+-- a signal is held
 abbrev held-signal : Signal → Bool
 held-signal Absent = false
 held-signal Open = true
 held-signal Awaited = true
 held-signal Closed = true
 
+-- a signal is held that was taken before the stop
 abbrev open-signal : Signal → Bool
 open-signal Absent = false
 open-signal Open = true
 open-signal Awaited = true
 open-signal Closed = false
 
+-- a signal is held that was taken before the stop and asked since
 abbrev waiting-signal : Signal → Bool
 waiting-signal Absent = false
 waiting-signal Open = false

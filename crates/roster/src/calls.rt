@@ -78,6 +78,7 @@ impl Roster {
         ensures items { λ _. ⌜ vec-items (now (ids .exit)) ≡ called whom (view (now (self .entry)) .rows) ⌝ }
         ensures capacity { λ _. ⌜ vec-cap (now (ids .exit)) ≡ vec-cap (now (ids .entry)) ⌝ }
         ensures ascending { λ _. ⌜ Ascending (vec-items (now (ids .exit))) ⌝ }
+        ensures few { λ _. ⌜ vec-len (now (ids .exit)) ≤ most-tasks ⌝ }
     {
         ids.clear();
         for row in self.rows.iter() {

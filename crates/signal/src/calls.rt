@@ -4,7 +4,7 @@ ghost use mathlib.Core.Bool.{not, cond, _&&_};
 ghost use mathlib.Core.List.{[]};
 ghost use Prim.Native.Nat.{_+_, _^_, _<_, _≤_};
 ghost use lib.ListN.{length};
-ghost use Rattle.std.specs.Of.Vec.{vec-items, vec-cap};
+ghost use Rattle.std.specs.Of.Vec.{vec-items, vec-len, vec-cap};
 ghost use Rattle.std.specs.Options.{isSome};
 ghost use Rattle.std.specs.Vec.{made};
 ghost use Rattle.std.specs.declared.option.Option.the-variants.{Some};
@@ -38,6 +38,7 @@ fn settle(switch: &Switch, roster: &Roster, completion: &mut OneShot<()>, woken:
     ensures woken { λ _. ⌜ vec-items (now (woken .exit)) ≡ cond (complete-with (stop-value (now (switch .entry))) (roll-of (now (roster .entry)) .rows) && not (isSome (held (now (completion .entry))))) (called Asked (roll-of (now (roster .entry)) .rows)) [] ⌝ }
     ensures capacity { λ _. ⌜ vec-cap (now (woken .exit)) ≡ vec-cap (now (woken .entry)) ⌝ }
     ensures ascending { λ _. ⌜ Ascending (vec-items (now (woken .exit))) ⌝ }
+    ensures few { λ _. ⌜ vec-len (now (woken .exit)) ≤ most-tasks ⌝ }
 {
     woken.clear();
     if switch.is_stopped() && !roster.some_open() && completion.send(()).is_ok() {
@@ -170,7 +171,8 @@ impl Stopper {
 
     // Whom the last stop, letting go or end of a task woke, by ascending id.
     pub fn woken(&self) -> &[u64]
-        ensures { λ r. ⌜ now r ≡ woken-by (now (self .entry)) ⌝ }
+        ensures value { λ r. ⌜ now r ≡ woken-by (now (self .entry)) ⌝ }
+        ensures few { λ r. ⌜ length (now r) ≤ most-tasks ⌝ }
     {
         self.woken.as_slice()
     }

@@ -1,7 +1,7 @@
 // The stop signal: running or stopped, who holds a signal, and when the stop is complete.
 ghost use mathlib.Core.Path.{_≡_};
 ghost use Prim.Native.Nat.{_≤_};
-ghost use Rattle.std.specs.Of.Vec.{vec-cap};
+ghost use Rattle.std.specs.Of.Vec.{vec-len, vec-cap};
 ghost use Rattle.std.specs.Options.{isSome};
 ghost use Rattle.oneshot.specs.Cell.{held};
 ghost use Rattle.roster.specs.Row.{most-tasks};
@@ -41,5 +41,6 @@ pub struct Stopper {
     // Those whom the last stop, letting go or end of a task woke.
     woken: Vec<u64>,
     ghost room: { most-tasks ≤ vec-cap woken },
+    ghost few: { vec-len woken ≤ most-tasks },
     ghost settled: { isSome (held completion) ≡ complete-with (stop-value switch) (roll-of roster .rows) },
 }

@@ -1,3 +1,4 @@
+-- The list stays in ringing order with the new alarm in its place.
 use native.Mathlib.Omega.{arith}
 use borrow.Author.Needs.{needs}
 use Rattle.alarms.proofs.Orders.{ordered-inserted}

@@ -1,3 +1,4 @@
+-- The serial of an arming is new.
 use borrow.Author.Needs.{needs}
 use Rattle.alarms.proofs.Orders.{rises-added}
 use Rattle.alarms.proofs.Alarms.arm.Needs as need

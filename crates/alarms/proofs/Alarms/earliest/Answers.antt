@@ -1,3 +1,4 @@
+-- The first of a list in ringing order is the earliest.
 use Rattle.alarms.proofs.Ringing.{earliest-so}
 use Rattle.alarms.proofs.Alarms.earliest.Needs as need
 

@@ -1,4 +1,5 @@
-use mathlib.Core.Path.{_≡_, sym}
+-- The search for a serial, alarm by alarm.
+use mathlib.Core.Path.{sym}
 use Rattle.keyed.proofs.Searches.{first-hit, first-miss, first-missed}
 use Rattle.alarms.specs.Model.{has-serial}
 use Rattle.alarms.proofs.Finding.{finds-found}

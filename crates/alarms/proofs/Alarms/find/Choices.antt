@@ -1,3 +1,4 @@
+-- The alarms that are left to look at give what all of them give.
 use mathlib.Core.Path.{_≡_}
 use lib.ListN.{drop}
 use Rattle.std.specs.Of.Vec.{vec-items}

@@ -1,3 +1,4 @@
+-- The search for a place, alarm by alarm.
 use native.Mathlib.Omega.{arith}
 use Rattle.alarms.proofs.Placing.{placed-here, placed-more, placed-last}
 use Rattle.alarms.proofs.Alarms.place.Needs as need

@@ -1,3 +1,4 @@
+-- The place among the alarms that are left is the place among all.
 use mathlib.Core.Path.{_≡_}
 use mathlib.Core.List.{_++_}
 use lib.ListN.{take, drop}

@@ -1,3 +1,4 @@
+-- The first of a list in ringing order is the one to ring.
 use mathlib.Core.Path.{ap}
 use Rattle.alarms.specs.Model.{Bells}
 use Rattle.alarms.proofs.Ringing.{rings-so}

@@ -1,3 +1,4 @@
+-- The row at the place is the one that the task finds.
 use Rattle.std.specs.Of.Vec.{vec-items}
 use Rattle.keyed.proofs.Places.{find-read}
 use Rattle.roster.specs.Row.{task-of}

@@ -1,3 +1,4 @@
+-- The list has those to wake of the rows so far, and its memory stays.
 use mathlib.Core.Path.{_≡_}
 use Prim.Native.Nat.{_≤_}
 use lib.ListN.{take}

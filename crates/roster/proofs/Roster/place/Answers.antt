@@ -1,3 +1,4 @@
+-- The search for a task's row.
 use mathlib.Core.Path.{sym}
 use native.Mathlib.Omega.{arith}
 use Rattle.std.proofs.shelf.Tests.{eqb-true, eqb-false}

@@ -1,3 +1,4 @@
+-- The task has a row among those that are left if it has one at all.
 use mathlib.Core.Path.{_≡_}
 use lib.ListN.{drop}
 use Rattle.std.specs.Of.Vec.{vec-items}

@@ -1,3 +1,4 @@
+-- The rows ascend with the new one at the end.
 use borrow.Author.Needs.{needs}
 use Rattle.roster.proofs.Rows.{ordered-entered}
 use Rattle.roster.proofs.Roster.register.Needs as need

@@ -1,3 +1,4 @@
+-- The search for an open signal.
 use mathlib.Core.Path.{sym}
 use Rattle.keyed.proofs.Searches.{any-hit, any-miss, any-missed}
 use Rattle.roster.specs.Row.{is-open}

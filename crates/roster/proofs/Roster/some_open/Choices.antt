@@ -1,3 +1,4 @@
+-- An open signal is held among the rows that are left if it is at all.
 use mathlib.Core.Path.{_≡_}
 use lib.ListN.{drop}
 use Rattle.std.specs.Of.Vec.{vec-items}

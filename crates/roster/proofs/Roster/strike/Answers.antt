@@ -1,3 +1,4 @@
+-- A removal at the place of a task's row is a removal by its id.
 use mathlib.Core.Path.{sym, ap}
 use mathlib.Core.List.{List}
 use borrow.Author.Needs.{needs}

@@ -1,3 +1,4 @@
+-- A write at the place of a task's row is a change by its id.
 use mathlib.Core.Path.{sym, refl, ap}
 use mathlib.Core.List.{List}
 use borrow.Author.Needs.{needs}

@@ -1,3 +1,4 @@
+-- Asking opens and closes nothing.
 use mathlib.Core.Path.{sym, _∙_}
 use borrow.Author.Needs.{needs}
 use Rattle.signal.specs.Switch.{stop-value}

@@ -1,3 +1,4 @@
+-- A row that is struck opens nothing, so completion stays.
 use borrow.Author.Needs.{needs}
 use Rattle.roster.specs.Model.{view as roll-of}
 use Rattle.signal.specs.Switch.{stop-value}

@@ -1,3 +1,4 @@
+-- Letting go opens nothing, so completion stays.
 use borrow.Author.Needs.{needs}
 use Rattle.signal.specs.Switch.{stop-value}
 use Rattle.signal.proofs.Completes.{complete-let-go, settled-so}

@@ -1,3 +1,4 @@
+-- A new row opens nothing.
 use mathlib.Core.Path.{sym, _∙_}
 use borrow.Author.Needs.{needs}
 use Rattle.roster.specs.Model.{view as roll-of}

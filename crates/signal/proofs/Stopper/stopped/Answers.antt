@@ -1,3 +1,4 @@
+-- A signal that is taken leaves completion as it was.
 use mathlib.Core.Path.{sym, _∙_}
 use borrow.Author.Needs.{needs}
 use Rattle.signal.specs.Switch.{stop-value}
