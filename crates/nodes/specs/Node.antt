@@ -41,6 +41,14 @@ bereaved n = with-stale (min (n .stale + 1) (2 ^ 64 - 1)) n
 abbrev pub released : ℕ → Node → Node
 released task n = cond (holds task (n .owner)) (with-owner None n) n
 
+-- the task leaves the node if it is seated there
+abbrev pub vacated : ℕ → Node → Node
+vacated task n = cond (holds task (n .task)) (with-task None n) n
+
+-- the node's context is spent, and the task is seated there
+abbrev pub taken : ℕ → Node → Node
+taken task n = with-task (Some task) (with-owner None n)
+
 -- the node is a child of the node p
 abbrev pub child-of : ℕ → Node → Bool
 child-of p n = holds p (n .parent)

@@ -6,7 +6,8 @@ ghost use lib.ListN.{length};
 ghost use Rattle.std.specs.Vec.{made};
 ghost use Rattle.std.specs.Of.Vec.{vec-items, vec-len, vec-cap};
 ghost use Rattle.keyed.specs.Keyed.{change, without};
-ghost use Rattle.nodes.specs.Node.{serial-of, fresh, released};
+ghost use Rattle.std.specs.declared.option.Option.the-variants.{None};
+ghost use Rattle.nodes.specs.Node.{serial-of, fresh, with-owner, released, vacated, taken};
 ghost use Rattle.nodes.specs.Living.{living, next-serial};
 use std::alloc::AllocError;
 use std::alloc::Global;
@@ -21,6 +22,17 @@ fn released(node: Node, task: u64) -> Node
 {
     if holds(node.owner, task) {
         Node { owner: None, ..node }
+    } else {
+        node
+    }
+}
+
+// The node, left by the task if it is seated there.
+fn vacated(node: Node, task: u64) -> Node
+    ensures { λ r. ⌜ r ≡ vacated task node ⌝ }
+{
+    if holds(node.task, task) {
+        Node { task: None, ..node }
     } else {
         node
     }
@@ -84,6 +96,41 @@ impl Nodes {
         for i in 0..self.list.len() {
             let node = self.list[i];
             self.list[i] = released(node, task);
+        }
+    }
+
+    // Closes the context of the node.
+    pub fn release(&mut self, serial: u64)
+        ensures nodes { λ _. ⌜ living (now (self .exit)) ≡ change serial-of (with-owner None) serial (living (now (self .entry))) ⌝ }
+        ensures next { λ _. ⌜ next-serial (now (self .exit)) ≡ next-serial (now (self .entry)) ⌝ }
+    {
+        if let Some(node) = self.find(serial) {
+            self.put(Node { owner: None, ..node });
+        }
+    }
+
+    // Spends the context of the node, and seats the task there.
+    pub fn seat(&mut self, serial: u64, task: u64)
+        ensures nodes { λ _. ⌜ living (now (self .exit)) ≡ change serial-of (taken task) serial (living (now (self .entry))) ⌝ }
+        ensures next { λ _. ⌜ next-serial (now (self .exit)) ≡ next-serial (now (self .entry)) ⌝ }
+    {
+        if let Some(node) = self.find(serial) {
+            self.put(Node {
+                owner: None,
+                task: Some(task),
+                ..node
+            });
+        }
+    }
+
+    // The task leaves its node.
+    pub fn vacate(&mut self, task: u64)
+        ensures nodes { λ _. ⌜ living (now (self .exit)) ≡ map (vacated task) (living (now (self .entry))) ⌝ }
+        ensures next { λ _. ⌜ next-serial (now (self .exit)) ≡ next-serial (now (self .entry)) ⌝ }
+    {
+        for i in 0..self.list.len() {
+            let node = self.list[i];
+            self.list[i] = vacated(node, task);
         }
     }
 }
