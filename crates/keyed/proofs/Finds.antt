@@ -129,53 +129,53 @@ module _ {X : Type 0} (key : X → ℕ) where
   pub change-found : (f : X → X) (lo hi k : ℕ) (xs : List X) (x : X) → ordered key lo hi xs ≡ true → find key k xs ≡ Some x → change key (λ _. f x) k xs ≡ change key f k xs
   change-found f lo hi k [] x o h = refl
   change-found f lo hi k (y ∷ ys) x o h =
-    let p = ordered-first key lo hi y ys o in
-    elim (cases-bool (eqb (key y) k)) [
-      inl e ↦
-        let is : y ≡ x = (let g = rw e at h in cc) in
-        let at-k = eqb-true (key y) k e in
-        let here : change key (λ _. f x) k ys ≡ change key f k ys = change-low key (λ _. f x) (suc (key y)) hi k ys (p .1) (omega arith) ∙ sym (change-low key f (suc (key y)) hi k ys (p .1) (omega arith)) in
-        rw e (ap (λ (z : X). f z ∷ change key (λ _. f x) k ys) (sym is) ∙ ap (λ (l : List X). f y ∷ l) here)
-    | inr e ↦ rw e (ap (λ (l : List X). y ∷ l) (change-found f (suc (key y)) hi k ys x (p .1) (rw e at h)))
-    ]
+      let p = ordered-first key lo hi y ys o in
+      elim (cases-bool (eqb (key y) k)) [
+        | inl e ↦
+            let is : y ≡ x = (let g = rw e at h in cc) in
+            let at-k = eqb-true (key y) k e in
+            let here : change key (λ _. f x) k ys ≡ change key f k ys = change-low key (λ _. f x) (suc (key y)) hi k ys (p .1) (omega arith) ∙ sym (change-low key f (suc (key y)) hi k ys (p .1) (omega arith)) in
+            rw e (ap (λ (z : X). f z ∷ change key (λ _. f x) k ys) (sym is) ∙ ap (λ (l : List X). f y ∷ l) here)
+        | inr e ↦ rw e (ap (λ (l : List X). y ∷ l) (change-found f (suc (key y)) hi k ys x (p .1) (rw e at h)))
+      ]
 
   -- what stands in an ascending list is what its key finds
   pub in-find : (lo hi : ℕ) (xs : List X) (x : X) → ordered key lo hi xs ≡ true → In x xs → find key (key x) xs ≡ Some x
   in-find lo hi [] x o h = absurd h
   in-find lo hi (y ∷ ys) x o (inl e) = ap (λ n. cond (eqb (key y) n) (Some y) (find key n ys)) (ap key e) ∙ (rw (eq-eqb (key y) (key y) refl) (ap Some (sym e)))
   in-find lo hi (y ∷ ys) x o (inr h) =
-    let p = ordered-first key lo hi y ys o in
-    let rest = in-find (suc (key y)) hi ys x (p .1) h in
-    elim (cases-bool (eqb (key y) (key x))) [
-      inl e ↦ absurd (some-not-none (find-low key (suc (key y)) hi (key x) ys (p .1) (omega (arith, eqb-true (key y) (key x) e))) rest)
-    | inr e ↦ rw e rest
-    ]
+      let p = ordered-first key lo hi y ys o in
+      let rest = in-find (suc (key y)) hi ys x (p .1) h in
+      elim (cases-bool (eqb (key y) (key x))) [
+        | inl e ↦ absurd (some-not-none (find-low key (suc (key y)) hi (key x) ys (p .1) (omega (arith, eqb-true (key y) (key x) e))) rest)
+        | inr e ↦ rw e rest
+      ]
 
   pub find-in : (k : ℕ) (xs : List X) (x : X) → find key k xs ≡ Some x → In x xs
   find-in k [] x h = absurd (some-not-none refl h)
   find-in k (y ∷ ys) x h = elim (cases-bool (eqb (key y) k)) [
-        inl e ↦ (let is : x ≡ y = (let g = rw e at h in cc) in inl is)
-      | inr e ↦ inr (find-in k ys x (rw e at h))
-      ]
+    | inl e ↦ (let is : x ≡ y = (let g = rw e at h in cc) in inl is)
+    | inr e ↦ inr (find-in k ys x (rw e at h))
+  ]
 
   -- where a key finds nothing, a change by it changes nothing
   pub change-missing : (f : X → X) (k : ℕ) (xs : List X) → find key k xs ≡ None → change key f k xs ≡ xs
   change-missing f k [] h = refl
   change-missing f k (y ∷ ys) h = elim (cases-bool (eqb (key y) k)) [
-        inl e ↦ (let g : Some y ≡ None = rw e at h in absurd (some-not-none g refl))
-      | inr e ↦ rw e (ap (λ (l : List X). y ∷ l) (change-missing f k ys (rw e at h)))
-      ]
+    | inl e ↦ (let g : Some y ≡ None = rw e at h in absurd (some-not-none g refl))
+    | inr e ↦ rw e (ap (λ (l : List X). y ∷ l) (change-missing f k ys (rw e at h)))
+  ]
 
   -- the record that was found, changed and put in its place, is the change by key
   pub put-found : (f : X → X) (lo hi k : ℕ) (xs ys : List X) (x y : X) → ordered key lo hi xs ≡ true → find key k xs ≡ Some x → y ≡ f x → key (f x) ≡ key x → ys ≡ change key (λ _. y) (key y) xs → ys ≡ change key f k xs
   put-found f lo hi k xs ys x y o h made same is =
-    is ∙ (ap (λ (z : X). change key (λ _. z) (key z) xs) made ∙ (ap (λ s. change key (λ _. f x) s xs) (same ∙ find-key k xs x h) ∙ change-found f lo hi k xs x o h))
+      is ∙ (ap (λ (z : X). change key (λ _. z) (key z) xs) made ∙ (ap (λ s. change key (λ _. f x) s xs) (same ∙ find-key k xs x h) ∙ change-found f lo hi k xs x o h))
 
   pub length-without-found : (lo hi k : ℕ) (xs : List X) (x : X) → ordered key lo hi xs ≡ true → find key k xs ≡ Some x → suc (length (without key k xs)) ≡ length xs
   length-without-found lo hi k [] x o h = absurd (some-not-none refl h)
   length-without-found lo hi k (y ∷ ys) x o h =
-    let p = ordered-first key lo hi y ys o in
-    elim (cases-bool (eqb (key y) k)) [
-      inl e ↦ rw e (ap (λ (l : List X). suc (length l)) (without-low key (suc (key y)) hi k ys (p .1) (omega (arith, eqb-true (key y) k e))))
-    | inr e ↦ rw e (ap suc (length-without-found (suc (key y)) hi k ys x (p .1) (rw e at h)))
-    ]
+      let p = ordered-first key lo hi y ys o in
+      elim (cases-bool (eqb (key y) k)) [
+        | inl e ↦ rw e (ap (λ (l : List X). suc (length l)) (without-low key (suc (key y)) hi k ys (p .1) (omega (arith, eqb-true (key y) k e))))
+        | inr e ↦ rw e (ap suc (length-without-found (suc (key y)) hi k ys x (p .1) (rw e at h)))
+      ]

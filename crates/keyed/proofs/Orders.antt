@@ -62,9 +62,9 @@ module _ {X : Type 0} (key : X → ℕ) where
   pub ordered-put : (y : X) (lo hi : ℕ) (xs : List X) → ordered key lo hi xs ≡ true → ordered key lo hi (change key (λ _. y) (key y) xs) ≡ true
   ordered-put y lo hi [] o = o
   ordered-put y lo hi (x ∷ xs) o =
-    let p = and-parts (leb lo (key x)) (ordered key (suc (key x)) hi xs) o in
-    let e : key (cond (eqb (key x) (key y)) y x) ≡ key x = cond-both (eqb (key x) (key y)) y x (λ (n : X). key n ≡ key x) (λ t. sym (eqb-true (key x) (key y) t)) (λ _. refl) in
-    rw e (and-from _ _ (p .0) (ordered-put y (suc (key x)) hi xs (p .1)))
+      let p = and-parts (leb lo (key x)) (ordered key (suc (key x)) hi xs) o in
+      let e : key (cond (eqb (key x) (key y)) y x) ≡ key x = cond-both (eqb (key x) (key y)) y x (λ (n : X). key n ≡ key x) (λ t. sym (eqb-true (key x) (key y) t)) (λ _. refl) in
+      rw e (and-from _ _ (p .0) (ordered-put y (suc (key x)) hi xs (p .1)))
 
   pub ordered-without : (lo hi k : ℕ) (xs : List X) → ordered key lo hi xs ≡ true → ordered key lo hi (without key k xs) ≡ true
   ordered-without lo hi k [] o = o
@@ -120,8 +120,8 @@ module _ {X : Type 0} (key : X → ℕ) where
   pub ordered-set : (lo hi : ℕ) (xs : List X) (i : ℕ) (x y : X) → ordered key lo hi xs ≡ true → x ≡ getD xs i x → key y ≡ key x → ordered key lo hi (set xs i y) ≡ true
   ordered-set lo hi [] i x y o read same = o
   ordered-set lo hi (z ∷ zs) zero x y o read same =
-    let p = and-parts (leb lo (key z)) (ordered key (suc (key z)) hi zs) o in
-    rw (same ∙ ap key read) (and-from _ _ (p .0) (p .1))
+      let p = and-parts (leb lo (key z)) (ordered key (suc (key z)) hi zs) o in
+      rw (same ∙ ap key read) (and-from _ _ (p .0) (p .1))
   ordered-set lo hi (z ∷ zs) (suc i) x y o read same =
-    let p = and-parts (leb lo (key z)) (ordered key (suc (key z)) hi zs) o in
-    and-from _ _ (p .0) (ordered-set (suc (key z)) hi zs i x y (p .1) read same)
+      let p = and-parts (leb lo (key z)) (ordered key (suc (key z)) hi zs) o in
+      and-from _ _ (p .0) (ordered-set (suc (key z)) hi zs i x y (p .1) read same)

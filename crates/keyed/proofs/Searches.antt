@@ -53,9 +53,9 @@ module _ {X : Type 0} (test : X → Bool) where
   pub in-any : (xs : List X) → any test xs ≡ true → (x : X) × In x xs × (test x ≡ true)
   in-any [] h = absurd (false≢true h)
   in-any (y ∷ ys) h = elim (or-cases (test y) (any test ys) h) [
-        inl t ↦ (y, inl refl, t)
-      | inr r ↦ (let g = in-any ys r in (g .0, inr (g .1), g .2))
-      ]
+    | inl t ↦ (y, inl refl, t)
+    | inr r ↦ (let g = in-any ys r in (g .0, inr (g .1), g .2))
+  ]
 
   pub not-any : (xs : List X) → any test xs ≡ false → (x : X) → In x xs → test x ≡ false
   not-any [] h x i = absurd i
@@ -66,13 +66,13 @@ module _ {X : Type 0} (test : X → Bool) where
   pub first-none : (xs : List X) → first test xs ≡ None → (x : X) → In x xs → test x ≡ false
   first-none [] h x i = absurd i
   first-none (y ∷ ys) h x i = elim (cases-bool (test y)) [
-        inl t ↦ (let g : Some y ≡ None = rw t at h in absurd (some-not-none g refl))
-      | inr t ↦ elim i [ inl e ↦ ap test e ∙ t | inr r ↦ first-none ys (rw t at h) x r ]
-      ]
+    | inl t ↦ (let g : Some y ≡ None = rw t at h in absurd (some-not-none g refl))
+    | inr t ↦ elim i [ inl e ↦ ap test e ∙ t | inr r ↦ first-none ys (rw t at h) x r ]
+  ]
 
   pub first-in : (xs : List X) (x : X) → first test xs ≡ Some x → In x xs × (test x ≡ true)
   first-in [] x h = absurd (some-not-none refl h)
   first-in (y ∷ ys) x h = elim (cases-bool (test y)) [
-        inl t ↦ (let is : x ≡ y = (let g = rw t at h in cc) in (inl is, ap test is ∙ t))
-      | inr t ↦ (let g = first-in ys x (rw t at h) in (inr (g .0), g .1))
-      ]
+    | inl t ↦ (let is : x ≡ y = (let g = rw t at h in cc) in (inl is, ap test is ∙ t))
+    | inr t ↦ (let g = first-in ys x (rw t at h) in (inr (g .0), g .1))
+  ]

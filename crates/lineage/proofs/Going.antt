@@ -24,18 +24,18 @@ going-start k F s waiting marks e is none = rw (e, is, none) (record { ends = re
 module _ (k k′ : ℕ) (p q p′ : List ℕ) (F G : Family) (s : ℕ) (marks marks′ : List ℕ) (whole : Family × List ℕ) where
   pub going-more : Going k p F marks whole → k ≡ k′ + 1 → p ≡ q ++ s ∷ [] → p′ ≡ q ++ step s F .below → G ≡ step s F .after → marks′ ≡ marks ++ step s F .marks → Going k′ p′ G marks′ whole
   going-more so-far falls popped waits after marked =
-    let st : reverse p ≡ s ∷ reverse q = ap reverse popped ∙ reverse-append q (s ∷ []) in
-    let st′ : reverse p′ ≡ reverse (step s F .below) ++ reverse q = ap reverse waits ∙ reverse-append q (step s F .below) in
-    let one : walk k (reverse p) F ≡ walk (suc k′) (s ∷ reverse q) F = ap (λ n. walk n (reverse p) F) (falls ∙ add-one k′) ∙ ap (λ (l : List ℕ). walk (suc k′) l F) st in
-    let two : walk k′ (reverse p′) G ≡ walk k′ (reverse (step s F .below) ++ reverse q) (step s F .after) = ap (λ (l : List ℕ). walk k′ l G) st′ ∙ ap (walk k′ (reverse (step s F .below) ++ reverse q)) after in
-    record {
-      ends = ap (λ (w : Family × List ℕ). w .0) two ∙ (sym (ap (λ (w : Family × List ℕ). w .0) one) ∙ so-far .ends);
-      marks-all =
-        ap (λ (l : List ℕ). l ++ walk k′ (reverse p′) G .1) marked
-        ∙ (append-assoc marks (step s F .marks) (walk k′ (reverse p′) G .1)
-        ∙ (ap (λ (w : Family × List ℕ). marks ++ (step s F .marks ++ w .1)) two
-        ∙ (sym (ap (λ (w : Family × List ℕ). marks ++ w .1) one) ∙ so-far .marks-all)))
-    }
+      let st : reverse p ≡ s ∷ reverse q = ap reverse popped ∙ reverse-append q (s ∷ []) in
+      let st′ : reverse p′ ≡ reverse (step s F .below) ++ reverse q = ap reverse waits ∙ reverse-append q (step s F .below) in
+      let one : walk k (reverse p) F ≡ walk (suc k′) (s ∷ reverse q) F = ap (λ n. walk n (reverse p) F) (falls ∙ add-one k′) ∙ ap (λ (l : List ℕ). walk (suc k′) l F) st in
+      let two : walk k′ (reverse p′) G ≡ walk k′ (reverse (step s F .below) ++ reverse q) (step s F .after) = ap (λ (l : List ℕ). walk k′ l G) st′ ∙ ap (walk k′ (reverse (step s F .below) ++ reverse q)) after in
+      record {
+        ends = ap (λ (w : Family × List ℕ). w .0) two ∙ (sym (ap (λ (w : Family × List ℕ). w .0) one) ∙ so-far .ends);
+        marks-all =
+            ap (λ (l : List ℕ). l ++ walk k′ (reverse p′) G .1) marked
+            ∙ (append-assoc marks (step s F .marks) (walk k′ (reverse p′) G .1)
+            ∙ (ap (λ (w : Family × List ℕ). marks ++ (step s F .marks ++ w .1)) two
+            ∙ (sym (ap (λ (w : Family × List ℕ). marks ++ w .1) one) ∙ so-far .marks-all)));
+      }
 
 pub going-end : (k : ℕ) (p : List ℕ) (F : Family) (marks : List ℕ) (whole : Family × List ℕ) → Going k p F marks whole → p ≡ [] → (F ≡ whole .0) × (marks ≡ whole .1)
 going-end k p F marks whole so-far none =

@@ -38,23 +38,23 @@ quick-change s (x ∷ xs) =
     let Q : Bool → Type 0 = λ a. cond a (quick (change serial-of condemned s xs)) (suc (quick (change serial-of condemned s xs))) ≤ cond a (quick xs) (suc (quick xs)) in
     let R : Bool → Type 0 = λ a. quick (change serial-of condemned s xs) ≤ cond a (quick xs) (suc (quick xs)) in
     elim (eqb (serial-of x) s) as (λ b. quick (cond b (condemned x) x ∷ change serial-of condemned s xs) ≤ quick (x ∷ xs)) [
-      true ↦ elim (x .aborted) as R [ true ↦ rest | false ↦ omega arith ]
-    | false ↦ elim (x .aborted) as Q [ true ↦ rest | false ↦ omega arith ]
+      | true ↦ elim (x .aborted) as R [ true ↦ rest | false ↦ omega arith ]
+      | false ↦ elim (x .aborted) as Q [ true ↦ rest | false ↦ omega arith ]
     ]
 
 -- each node that is struck leaves fewer to strike
 pub quick-hit : (s : ℕ) (xs : List Node) (n : Node) → find serial-of s xs ≡ Some n → n .aborted ≡ false → suc (quick (change serial-of condemned s xs)) ≤ quick xs
 quick-hit s [] n found h = absurd (some-not-none refl found)
 quick-hit s (x ∷ xs) n found h = elim (cases-bool (eqb (serial-of x) s)) [
-      inl e ↦
-        let is : x ≡ n = (let f = rw e at found in cc) in
-        let a : x .aborted ≡ false = ap (λ (m : Node). m .aborted) is ∙ h in
-        rw (e, a) (omega (arith, quick-change s xs))
-    | inr e ↦
-        let rest = quick-hit s xs n (rw e at found) h in
-        let Q : Bool → Type 0 = λ a. suc (cond a (quick (change serial-of condemned s xs)) (suc (quick (change serial-of condemned s xs)))) ≤ cond a (quick xs) (suc (quick xs)) in
-        rw e (elim (x .aborted) as Q [ true ↦ rest | false ↦ omega arith ])
-    ]
+  | inl e ↦
+      let is : x ≡ n = (let f = rw e at found in cc) in
+      let a : x .aborted ≡ false = ap (λ (m : Node). m .aborted) is ∙ h in
+      rw (e, a) (omega (arith, quick-change s xs))
+  | inr e ↦
+      let rest = quick-hit s xs n (rw e at found) h in
+      let Q : Bool → Type 0 = λ a. suc (cond a (quick (change serial-of condemned s xs)) (suc (quick (change serial-of condemned s xs)))) ≤ cond a (quick xs) (suc (quick xs)) in
+      rw e (elim (x .aborted) as Q [ true ↦ rest | false ↦ omega arith ])
+]
 
 pub quick-few : (xs : List Node) → quick xs ≤ length xs
 quick-few [] = omega arith

@@ -33,10 +33,10 @@ passed F = record { after = F; below = []; marks = [] }
 -- the node n, of serial s, is aborted: its task is given, and its links go while its children wait
 abbrev pub struck : ℕ → Node → Family → Step
 struck s n F = record {
-      after = family (change serial-of condemned s (F .nodes)) (kept-by (elsewhere s) (F .links)) (F .next);
-      below = children s (F .links);
-      marks = listOf (n .task)
-    }
+  after = family (change serial-of condemned s (F .nodes)) (kept-by (elsewhere s) (F .links)) (F .next);
+  below = children s (F .links);
+  marks = listOf (n .task);
+}
 
 -- the step at what was found
 abbrev pub step-at : ℕ → Option Node → Family → Step
@@ -52,9 +52,10 @@ step s F = step-at s (node-at s F) F
 abbrev pub walk : ℕ → List ℕ → Family → Family × List ℕ
 walk zero wait F = (F, [])
 walk (suc k) [] F = (F, [])
-walk (suc k) (s ∷ wait) F =
-    ( walk k (reverse (step s F .below) ++ wait) (step s F .after) .0
-    , step s F .marks ++ walk k (reverse (step s F .below) ++ wait) (step s F .after) .1 )
+walk (suc k) (s ∷ wait) F = (
+  walk k (reverse (step s F .below) ++ wait) (step s F .after) .0,
+  step s F .marks ++ walk k (reverse (step s F .below) ++ wait) (step s F .after) .1,
+)
 
 -- the cascade from `top`: the family after it, and the tasks to mark, in order
 abbrev pub cascaded : ℕ → Family → Family × List ℕ

@@ -17,7 +17,10 @@ fn bereave(nodes: &mut Nodes, parent: u64)
     ensures next { λ _. ⌜ next-serial (now (nodes .exit)) ≡ next-serial (now (nodes .entry)) ⌝ }
 {
     if let Some(node) = nodes.find(parent) {
-        nodes.put(Node { stale: node.stale.saturating_add(1), ..node });
+        nodes.put(Node {
+            stale: node.stale.saturating_add(1),
+            ..node
+        });
     }
 }
 

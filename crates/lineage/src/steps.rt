@@ -9,13 +9,13 @@ ghost use Rattle.links.specs.Linked.{linked};
 ghost use Rattle.lineage.specs.Family.{family-of};
 ghost use Rattle.lineage.specs.Cascade.{step, cascaded, quick};
 ghost use Rattle.lineage.specs.Walked.{to-mark, to-visit};
-use std::alloc::AllocError;
-use std::alloc::Global;
+use crate::walk::Walk;
 use links::Links;
 use nodes::MOST_NODES;
 use nodes::Node;
 use nodes::Nodes;
-use crate::walk::Walk;
+use std::alloc::AllocError;
+use std::alloc::Global;
 
 // The top and every link may wait at once.
 const MOST_WAITING: usize = 257;
@@ -62,7 +62,11 @@ impl Walk {
         if node.aborted {
             return;
         }
-        nodes.put(Node { aborted: true, stale: 0, ..node });
+        nodes.put(Node {
+            aborted: true,
+            stale: 0,
+            ..node
+        });
         self.note(node.task);
         links.gather(serial, &mut self.waiting);
         links.drain(serial);

@@ -29,19 +29,19 @@ children-count p (l ∷ ls) =
 module _ (p : ℕ) (xs ys : List Link) (same : xs ≡ ys) (i : ℕ) (d : Link) (h : i < length xs) (before sofar : List ℕ) (so : sofar ≡ before ++ children p (take i ys)) where
   next-children : children p (take (i + 1) ys) ≡ children p (take i ys) ++ children p (getD xs i d ∷ [])
   next-children =
-    ap (λ (l : List Link). children p (take (i + 1) l)) (sym same)
-    ∙ (ap (children p) (take-more xs i d h) ∙ (children-append p (take i xs) (getD xs i d ∷ []) ∙ ap (λ (l : List Link). children p (take i l) ++ children p (getD xs i d ∷ [])) same))
+      ap (λ (l : List Link). children p (take (i + 1) l)) (sym same)
+      ∙ (ap (children p) (take-more xs i d h) ∙ (children-append p (take i xs) (getD xs i d ∷ []) ∙ ap (λ (l : List Link). children p (take i l) ++ children p (getD xs i d ∷ [])) same))
 
   pub gathered-more : getD xs i d .parent ≡ p → sofar ++ getD xs i d .child ∷ [] ≡ before ++ children p (take (i + 1) ys)
   gathered-more e =
-    let one : children p (getD xs i d ∷ []) ≡ getD xs i d .child ∷ [] = rw (eq-eqb (getD xs i d .parent) p e) refl in
-    ap (λ (l : List ℕ). l ++ getD xs i d .child ∷ []) so
-    ∙ (append-assoc before (children p (take i ys)) (getD xs i d .child ∷ []) ∙ ap (λ (l : List ℕ). before ++ l) (sym (next-children ∙ ap (λ (l : List ℕ). children p (take i ys) ++ l) one)))
+      let one : children p (getD xs i d ∷ []) ≡ getD xs i d .child ∷ [] = rw (eq-eqb (getD xs i d .parent) p e) refl in
+      ap (λ (l : List ℕ). l ++ getD xs i d .child ∷ []) so
+      ∙ (append-assoc before (children p (take i ys)) (getD xs i d .child ∷ []) ∙ ap (λ (l : List ℕ). before ++ l) (sym (next-children ∙ ap (λ (l : List ℕ). children p (take i ys) ++ l) one)))
 
   pub gathered-same : (getD xs i d .parent ≡ p → ⊥) → sofar ≡ before ++ children p (take (i + 1) ys)
   gathered-same e =
-    let one : children p (getD xs i d ∷ []) ≡ [] = rw (ne-eqb (getD xs i d .parent) p e) refl in
-    so ∙ ap (λ (l : List ℕ). before ++ l) (sym (next-children ∙ (ap (λ (l : List ℕ). children p (take i ys) ++ l) one ∙ append-nil (children p (take i ys)))))
+      let one : children p (getD xs i d ∷ []) ≡ [] = rw (ne-eqb (getD xs i d .parent) p e) refl in
+      so ∙ ap (λ (l : List ℕ). before ++ l) (sym (next-children ∙ (ap (λ (l : List ℕ). children p (take i ys) ++ l) one ∙ append-nil (children p (take i ys)))))
 
 pub gathered-all : (p : ℕ) (xs ys : List Link) → xs ≡ ys → (i : ℕ) (before sofar : List ℕ) → length xs ≤ i → sofar ≡ before ++ children p (take i ys) → sofar ≡ before ++ children p ys
 gathered-all p xs ys same i before sofar h so = so ∙ ap (λ (l : List Link). before ++ children p l) (rw same at (take-all i xs h))

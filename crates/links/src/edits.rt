@@ -8,13 +8,13 @@ ghost use Rattle.std.specs.shelf.Lists.{kept-by};
 ghost use Rattle.nodes.specs.Living.{living};
 ghost use Rattle.links.specs.Link.{link, elsewhere, survives};
 ghost use Rattle.links.specs.Linked.{linked};
-use std::alloc::AllocError;
-use std::alloc::Global;
-use nodes::Nodes;
 use crate::Link;
 use crate::Links;
 use crate::MOST_LINKS;
 use crate::reads::survives;
+use nodes::Nodes;
+use std::alloc::AllocError;
+use std::alloc::Global;
 
 impl Links {
     // No link yet. Nothing is allocated after this.

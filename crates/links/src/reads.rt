@@ -8,9 +8,9 @@ ghost use Rattle.std.specs.shelf.Lists.{kept-by};
 ghost use Rattle.nodes.specs.Living.{living};
 ghost use Rattle.links.specs.Link.{from, survives, children};
 ghost use Rattle.links.specs.Linked.{linked};
-use nodes::Nodes;
 use crate::Link;
 use crate::Links;
+use nodes::Nodes;
 
 // Whether the link is no dead link of the parent.
 pub(crate) fn survives(link: Link, parent: u64, nodes: &Nodes) -> bool

@@ -9,19 +9,22 @@ ghost use Rattle.keyed.specs.Keyed.{change, without};
 ghost use Rattle.std.specs.declared.option.Option.the-variants.{None};
 ghost use Rattle.nodes.specs.Node.{serial-of, fresh, with-owner, released, vacated, taken};
 ghost use Rattle.nodes.specs.Living.{living, next-serial};
-use std::alloc::AllocError;
-use std::alloc::Global;
 use crate::MOST_NODES;
 use crate::Node;
 use crate::Nodes;
 use crate::reads::holds;
+use std::alloc::AllocError;
+use std::alloc::Global;
 
 // The node, its context closed if the task holds it.
 fn released(node: Node, task: u64) -> Node
     ensures { λ r. ⌜ r ≡ released task node ⌝ }
 {
     if holds(node.owner, task) {
-        Node { owner: None, ..node }
+        Node {
+            owner: None,
+            ..node
+        }
     } else {
         node
     }
@@ -105,7 +108,10 @@ impl Nodes {
         ensures next { λ _. ⌜ next-serial (now (self .exit)) ≡ next-serial (now (self .entry)) ⌝ }
     {
         if let Some(node) = self.find(serial) {
-            self.put(Node { owner: None, ..node });
+            self.put(Node {
+                owner: None,
+                ..node
+            });
         }
     }
 

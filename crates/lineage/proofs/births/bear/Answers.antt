@@ -22,5 +22,5 @@ returns c =
     let told = tidied-tells (c .args .parent) (family-of (c .args .nodes .now) (c .args .links .now)) in
     record {
       serial = c .add-serial .ensures .serial ∙ (ap (λ (f : Family). f .next) (c .tidy .ensures) ∙ told .next);
-      after = born-is (c .args .parent) (c .args .owner) (family-of (c .args .nodes .now) (c .args .links .now)) _ _ _ (c .add-serial .result) _ _ _ (c .tidy .ensures) (c .add-serial .ensures .serial) (c .add-serial .ensures .nodes) (c .add-serial .ensures .next) (c .add .ensures)
+      after = born-is (c .args .parent) (c .args .owner) (family-of (c .args .nodes .now) (c .args .links .now)) _ _ _ (c .add-serial .result) _ _ _ (c .tidy .ensures) (c .add-serial .ensures .serial) (c .add-serial .ensures .nodes) (c .add-serial .ensures .next) (c .add .ensures);
     }

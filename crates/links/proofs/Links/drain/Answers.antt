@@ -13,8 +13,8 @@ pub loop-i-again : need.loop-i-again
 loop-i-again c =
     let lt : c .loop-i .i < length (linked (c .loop-i .self)) = omega (arith, c .loop-i .inv .long, c .len-i-end .ensures, c .args .self .now .list .ok .0, c .loop-i .self .list .ok .0) in
     elim (c .if-here-parent .came) [
-      then-here-parent w ↦ rw (w .self-is, w .end-is) (keeping-more-set (c .loop-i .inv) lt (ap not (ne-eqb _ _ (w .if-here-parent .taken))) (c .index-here .ensures))
-    | else-here-parent w ↦ rw (w .self-is, w .end-is) (keeping-more-no (c .loop-i .inv) lt (ap not (eq-eqb _ _ (w .if-here-parent .left))) (c .index-here .ensures))
+      | then-here-parent w ↦ rw (w .self-is, w .end-is) (keeping-more-set (c .loop-i .inv) lt (ap not (ne-eqb _ _ (w .if-here-parent .taken))) (c .index-here .ensures))
+      | else-here-parent w ↦ rw (w .self-is, w .end-is) (keeping-more-no (c .loop-i .inv) lt (ap not (eq-eqb _ _ (w .if-here-parent .left))) (c .index-here .ensures))
     ]
 
 pub returns : need.returns

@@ -12,9 +12,9 @@ ghost-self c =
 
 pub returns-in-Some : need.returns-in-Some
 returns-in-Some c = record {
-      nodes = change-write serial-of _ _ _ _ _ (c .args .self .now .order) refl (c .in-Some .ensures tt .0) (c .in-Some .ensures tt .1) (λ (_ : Node). c .args .node) _ _ (c .index-mut .ensures .value) refl;
-      next = refl
-    }
+  nodes = change-write serial-of _ _ _ _ _ (c .args .self .now .order) refl (c .in-Some .ensures tt .0) (c .in-Some .ensures tt .1) (λ (_ : Node). c .args .node) _ _ (c .index-mut .ensures .value) refl;
+  next = refl;
+}
 
 pub returns-in-rest : need.returns-in-rest
 returns-in-rest c = record { nodes = sym (change-none serial-of (λ (_ : Node). c .args .node) _ _ (c .in-rest .ensures tt)); next = refl }

@@ -18,12 +18,13 @@ ghost-self c =
 
 pub loop-i-again : need.loop-i-again
 loop-i-again c =
-    let lt : c .loop-i .i < length (living (c .args .self .now)) = omega (arith, c .loop-i-test .taken, c .len-i-end .ensures, c .args .self .now .list .ok .0) in
-    ( ap (λ (n : Node). set (living (c .loop-i .self)) (c .loop-i .i) n) (c .released .ensures) ∙ map-over-more (released (c .args .task)) (living (c .args .self .now)) (living (c .loop-i .self)) (c .loop-i .i) (c .index-node .result .now) lt (c .loop-i .inv .0) (c .index-node .ensures)
-    , c .loop-i .inv .1 )
+    let lt : c .loop-i .i < length (living (c .args .self .now)) = omega (arith, c .loop-i-test .taken, c .len-i-end .ensures, c .args .self .now .list .ok .0) in (
+      ap (λ (n : Node). set (living (c .loop-i .self)) (c .loop-i .i) n) (c .released .ensures) ∙ map-over-more (released (c .args .task)) (living (c .args .self .now)) (living (c .loop-i .self)) (c .loop-i .i) (c .index-node .result .now) lt (c .loop-i .inv .0) (c .index-node .ensures),
+      c .loop-i .inv .1,
+    )
 
 pub returns : need.returns
 returns c = record {
-      nodes = mapped-all (released (c .args .task)) _ _ (c .loop-i .i) (c .loop-i .inv .0) (omega (arith, c .loop-i-test .left, c .len-i-end .ensures, c .args .self .now .list .ok .0));
-      next = c .loop-i .inv .1
-    }
+  nodes = mapped-all (released (c .args .task)) _ _ (c .loop-i .i) (c .loop-i .inv .0) (omega (arith, c .loop-i-test .left, c .len-i-end .ensures, c .args .self .now .list .ok .0));
+  next = c .loop-i .inv .1;
+}

@@ -11,9 +11,9 @@ ghost-self c =
 
 pub returns-in-Some : need.returns-in-Some
 returns-in-Some c = record {
-      nodes = without-removal serial-of _ _ _ _ _ (c .args .self .now .order) refl (c .in-Some .ensures tt .0) (c .in-Some .ensures tt .1) _ (c .remove .result) (c .remove .ensures .items);
-      next = refl
-    }
+  nodes = without-removal serial-of _ _ _ _ _ (c .args .self .now .order) refl (c .in-Some .ensures tt .0) (c .in-Some .ensures tt .1) _ (c .remove .result) (c .remove .ensures .items);
+  next = refl;
+}
 
 pub returns-in-rest : need.returns-in-rest
 returns-in-rest c = record { nodes = sym (without-none serial-of _ _ (c .in-rest .ensures tt)); next = refl }

@@ -17,10 +17,11 @@ pub loop-next-holds : need.loop-next-holds
 loop-next-holds c =
     let one = c .push-reserved .ensures .items ∙ ap (λ (l : List ℕ). l ++ c .args .top ∷ []) (c .clear .ensures .items) in
     let long = ap length one in
-    let none = ap length (c .clear-2 .ensures .items) in
-    ( going-start _ (family-of (c .args .nodes .now) (c .args .links .now)) (c .args .top) _ _ (omega (arith, long)) one (c .clear-2 .ensures .items)
-    , omega (arith, long, c .args .links .now .few, c .args .links .now .list .ok .0)
-    , omega (arith, none, quick-few (living (c .args .nodes .now)), c .args .nodes .now .few, c .args .nodes .now .list .ok .0) )
+    let none = ap length (c .clear-2 .ensures .items) in (
+      going-start _ (family-of (c .args .nodes .now) (c .args .links .now)) (c .args .top) _ _ (omega (arith, long)) one (c .clear-2 .ensures .items),
+      omega (arith, long, c .args .links .now .few, c .args .links .now .list .ok .0),
+      omega (arith, none, quick-few (living (c .args .nodes .now)), c .args .nodes .now .few, c .args .nodes .now .list .ok .0),
+    )
 
 -- the turn that the loop has made
 falls : (c : need.After-visit) → length (to-visit (c .loop-next .self)) + length (linked (c .loop-next .links)) ≡ (length (to-visit (c .visit .last .self)) + length (linked (c .visit .last .links))) + 1
@@ -36,10 +37,11 @@ visit-requires c κs =
 
 pub loop-next-again : need.loop-next-again
 loop-next-again c =
-    let room = turn-room (c .in-Some .next) (family-of (c .loop-next .nodes) (c .loop-next .links)) (family-of (c .visit .last .nodes) (c .visit .last .links)) _ _ (c .visit .ensures .marked) (c .visit .ensures .after) in
-    ( going-more _ _ _ _ _ (family-of (c .loop-next .nodes) (c .loop-next .links)) _ (c .in-Some .next) _ _ _ (c .loop-next .inv .0) (falls c) (c .in-Some .ensures tt .items) (c .visit .ensures .waiting) (c .visit .ensures .after) (c .visit .ensures .marked)
-    , omega (arith, falls c, c .loop-next .inv .1)
-    , omega (arith, room, c .loop-next .inv .2) )
+    let room = turn-room (c .in-Some .next) (family-of (c .loop-next .nodes) (c .loop-next .links)) (family-of (c .visit .last .nodes) (c .visit .last .links)) _ _ (c .visit .ensures .marked) (c .visit .ensures .after) in (
+      going-more _ _ _ _ _ (family-of (c .loop-next .nodes) (c .loop-next .links)) _ (c .in-Some .next) _ _ _ (c .loop-next .inv .0) (falls c) (c .in-Some .ensures tt .items) (c .visit .ensures .waiting) (c .visit .ensures .after) (c .visit .ensures .marked),
+      omega (arith, falls c, c .loop-next .inv .1),
+      omega (arith, room, c .loop-next .inv .2),
+    )
 
 pub returns : need.returns
 returns c =

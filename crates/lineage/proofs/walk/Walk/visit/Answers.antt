@@ -32,7 +32,7 @@ returns-in-rest c =
     record {
       after = ap (λ (v : Step). v .after) (sym dead);
       waiting = sym (append-nil (to-visit (c .args .self .now))) ∙ ap (λ (v : Step). to-visit (c .args .self .now) ++ v .below) (sym dead);
-      marked = sym (append-nil (to-mark (c .args .self .now))) ∙ ap (λ (v : Step). to-mark (c .args .self .now) ++ v .marks) (sym dead)
+      marked = sym (append-nil (to-mark (c .args .self .now))) ∙ ap (λ (v : Step). to-mark (c .args .self .now) ++ v .marks) (sym dead);
     }
 
 pub returns-then-node : need.returns-then-node
@@ -41,7 +41,7 @@ returns-then-node c =
     record {
       after = ap (λ (v : Step). v .after) (sym over);
       waiting = sym (append-nil (to-visit (c .args .self .now))) ∙ ap (λ (v : Step). to-visit (c .args .self .now) ++ v .below) (sym over);
-      marked = sym (append-nil (to-mark (c .args .self .now))) ∙ ap (λ (v : Step). to-mark (c .args .self .now) ++ v .marks) (sym over)
+      marked = sym (append-nil (to-mark (c .args .self .now))) ∙ ap (λ (v : Step). to-mark (c .args .self .now) ++ v .marks) (sym over);
     }
 
 pub returns : need.returns
@@ -52,5 +52,5 @@ returns c =
     record {
       after = same-family nodes (c .drain .ensures) (c .put .ensures .next) ∙ ap (λ (v : Step). v .after) (sym hit);
       waiting = c .gather .ensures .children ∙ (ap (λ (l : List ℕ). l ++ children (c .args .serial) (linked (c .args .links .now))) (c .note .ensures .waiting) ∙ ap (λ (v : Step). to-visit (c .args .self .now) ++ v .below) (sym hit));
-      marked = c .note .ensures .marked ∙ ap (λ (v : Step). to-mark (c .args .self .now) ++ v .marks) (sym hit)
+      marked = c .note .ensures .marked ∙ ap (λ (v : Step). to-mark (c .args .self .now) ++ v .marks) (sym hit);
     }
