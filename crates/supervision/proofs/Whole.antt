@@ -3,7 +3,8 @@ use mathlib.Core.Path.{_≡_, refl, sym, ap, subst, _∙_}
 use mathlib.Core.Bool.{Bool, true, false, cond, not, _||_}
 use mathlib.Core.List.{List, [], _∷_, _++_, map}
 use Prim.Native.Nat.{ℕ}
-use Rattle.std.proofs.shelf.Tests.{false≢true}
+use mathlib.Core.Logic.{inl, inr}
+use Rattle.std.proofs.shelf.Tests.{false≢true, cases-bool}
 use Rattle.std.specs.declared.option.Option.{Option}
 use Rattle.std.specs.declared.option.Option.the-variants.{Some, None}
 use Rattle.keyed.specs.Choices.{given, holds}
@@ -15,7 +16,8 @@ use Rattle.lineage.specs.Births.{swept, tidied, grown, stillborn, joined, born}
 use Rattle.lineage.specs.Deaths.{settled}
 use Rattle.supervision.specs.declared.Tree.{Tree}
 use Rattle.supervision.specs.Sound.{Lives, Rooted, Shielded, Linked, Honest, Past, Kept}
-use Rattle.supervision.specs.Calls.{view, founded, closed, seated, closed-all, left}
+use Rattle.supervision.specs.declared.Refusal.the-variants.{NotOpen}
+use Rattle.supervision.specs.Calls.{view, founded, child-refusal, closed, seated, closed-all, left}
 use Rattle.supervision.proofs.Solid.{Frame, Solid, solid-map, solid-changed, tidied-by}
 use Rattle.supervision.proofs.Dying.{solid-settled, kept-settled}
 use Rattle.supervision.proofs.Newborn.{solid-alone, solid-born}
@@ -77,7 +79,7 @@ pub whole-closed : (s : ℕ) (F : Family) → Whole F → Whole (closed s F)
 whole-closed s F w = whole-settled (changed (with-owner None) s F) (solid-changed (with-owner None) (λ _. refl) (λ _. refl) (λ _. refl) s F (w .solid))
 
 -- a node that is changed or not keeps what it keeps when it is changed
-by-test : {Y : Type 0} (field : Node → Y) (b : Bool) (x y : Node) → field x ≡ field y → field (cond b x y) ≡ field y
+pub by-test : {Y : Type 0} (field : Node → Y) (b : Bool) (x y : Node) → field x ≡ field y → field (cond b x y) ≡ field y
 by-test field true x y e = e
 by-test field false x y e = refl
 
@@ -110,3 +112,17 @@ open-lives task s F h = open-lives-at task (node-at s F) h
 -- and the flag of that node is the context's
 pub flag-at : (s : ℕ) (F : Family) (n : Node) (b : Bool) → Lives F s n → aborted-at s F ≡ b → n .aborted ≡ b
 flag-at s F n b l h = sym (ap (λ (o : Option Node). given o false (λ m. m .aborted)) l) ∙ h
+
+-- what is not refused is open
+pub not-refused : (task s : ℕ) (F : Family) → child-refusal task s F ≡ None → open-for task s F ≡ true
+not-refused task s F h = elim (cases-bool (open-for task s F)) [
+      inl e ↦ e
+    | inr e ↦ (let g : Some NotOpen ≡ None = rw e at h in absurd (some-not-none g refl))
+    ]
+
+-- what holds of every tree
+pub whole-of : (t : Tree) → Whole (view t)
+whole-of t = record {
+      solid = record { frame = record { order = t .nodes .order; rooted = t .rooted; honest = t .honest; past = t .past }; shielded = t .shielded; linked = t .linked };
+      kept = t .kept
+    }
