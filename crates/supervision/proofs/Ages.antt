@@ -1,4 +1,5 @@
--- Serials are never reused: what is dead stays dead, whatever is done to a tree.
+-- Serials are never reused: what is dead stays dead, whatever is done to a tree, and the next serial
+-- rises with births alone.
 use mathlib.Core.Path.{_≡_, refl, sym, ap, subst, _∙_}
 use mathlib.Core.Bool.{Bool, true, false, cond}
 use mathlib.Core.List.{List, [], _∷_, _++_, map, reverse}
@@ -21,6 +22,7 @@ use Rattle.lineage.specs.Family.{Family, family, node-at, changed, aborted-at}
 use Rattle.lineage.specs.Births.{swept, tidied, grown, stillborn, joined, born}
 use Rattle.lineage.specs.Deaths.{mourned, buried, doomed, one-dies, repeated, settled}
 use Rattle.lineage.specs.Cascade.{Step, condemned, passed, struck, step-at, step, walk, cascaded}
+use Rattle.lineage.proofs.Newborn.{tidied-tells}
 use Rattle.supervision.specs.declared.Refusal.{Refusal}
 use Rattle.supervision.specs.Laws.{Aged}
 use Rattle.supervision.specs.Calls.{child-refusal, with-child, after-child, context-refusal, closed, after-close, seated, closed-all, left}
@@ -135,3 +137,29 @@ aged-walk (suc k) (s ∷ st) F = aged-then F (step s F .after) (walk (suc k) (s 
 
 pub aged-cascaded : (top : ℕ) (F : Family) → Aged F (cascaded top F .0)
 aged-cascaded top F = aged-walk (1 + length (F .links)) (top ∷ []) F
+
+next-one-at : (F : Family) (o : Option Node) → given o F (λ n. buried n F) .next ≡ F .next
+next-one-at F None = refl
+next-one-at F (Some n) = refl
+
+next-repeated : (k : ℕ) (F : Family) → repeated k one-dies F .next ≡ F .next
+next-repeated zero F = refl
+next-repeated (suc k) F = next-repeated k (one-dies F) ∙ next-one-at F (doomed F)
+
+pub next-settled : (F : Family) → settled F .next ≡ F .next
+next-settled F = next-repeated (length (F .nodes)) F
+
+next-step : (s : ℕ) (o : Option Node) (F : Family) → step-at s o F .after .next ≡ F .next
+next-step s None F = refl
+next-step s (Some n) F = cond-both (n .aborted) (passed F) (struck s n F) (λ (v : Step). v .after .next ≡ F .next) (λ _. refl) (λ _. refl)
+
+next-walk : (k : ℕ) (st : List ℕ) (F : Family) → walk k st F .0 .next ≡ F .next
+next-walk zero st F = refl
+next-walk (suc k) [] F = refl
+next-walk (suc k) (s ∷ st) F = next-walk k (reverse (step s F .below) ++ st) (step s F .after) ∙ next-step s (node-at s F) F
+
+pub next-cascaded : (top : ℕ) (F : Family) → cascaded top F .0 .next ≡ F .next
+next-cascaded top F = next-walk (1 + length (F .links)) (top ∷ []) F
+
+pub next-born : (p owner : ℕ) (F : Family) → born p owner F .next ≡ F .next + 1
+next-born p owner F = ap (λ k. k + 1) (tidied-tells p F .next)

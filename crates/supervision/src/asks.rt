@@ -20,6 +20,13 @@ impl Tree {
         self.nodes.len()
     }
 
+    // The serial that the next context gets.
+    pub fn next_serial(&self) -> u64
+        ensures { λ r. ⌜ r ≡ view (now (self .entry)) .next ⌝ }
+    {
+        self.nodes.next_serial()
+    }
+
     // Whether the context is open and the task holds it.
     pub fn is_open(&self, task: u64, context: u64) -> bool
         ensures { λ r. ⌜ r ≡ open-for task context (view (now (self .entry))) ⌝ }

@@ -1,7 +1,7 @@
 // The calls that make contexts and spend them.
 ghost use mathlib.Core.Path.{_≡_};
 ghost use mathlib.Core.Bool.{true, false};
-ghost use Prim.Native.Nat.{_+_, _<_, _^_};
+ghost use Prim.Native.Nat.{_+_, _<_, _≤_, _^_};
 ghost use Rattle.std.specs.Vec.{made};
 ghost use Rattle.keyed.specs.Choices.{answered};
 ghost use Rattle.lineage.specs.Family.{open-for, aborted-at, node-free};
@@ -40,6 +40,7 @@ impl Tree {
         ensures answer { λ r. ⌜ r ≡ answered (child-refusal task context (view (now (self .entry)))) (view (now (self .entry)) .next, aborted-at context (view (now (self .entry)))) ⌝ }
         ensures state { λ _. ⌜ view (now (self .exit)) ≡ after-child task context (view (now (self .entry))) ⌝ }
         ensures serials { λ _. ⌜ Aged (view (now (self .entry))) (view (now (self .exit))) ⌝ }
+        ensures next { λ _. ⌜ view (now (self .exit)) .next ≤ view (now (self .entry)) .next + 1 ⌝ }
     {
         if let Some(refusal) = self.child_refusal(task, context) {
             return Err(refusal);
@@ -57,6 +58,7 @@ impl Tree {
         ensures answer { λ r. ⌜ r ≡ answered (context-refusal task context (view (now (self .entry)))) tt ⌝ }
         ensures state { λ _. ⌜ view (now (self .exit)) ≡ after-close task context (view (now (self .entry))) ⌝ }
         ensures serials { λ _. ⌜ Aged (view (now (self .entry))) (view (now (self .exit))) ⌝ }
+        ensures next { λ _. ⌜ view (now (self .exit)) .next ≡ view (now (self .entry)) .next ⌝ }
     {
         if !self.is_open(task, context) {
             return Err(Refusal::NotOpen);
@@ -69,6 +71,7 @@ impl Tree {
     pub fn spend(&mut self, context: u64)
         ensures state { λ _. ⌜ view (now (self .exit)) ≡ closed context (view (now (self .entry))) ⌝ }
         ensures serials { λ _. ⌜ Aged (view (now (self .entry))) (view (now (self .exit))) ⌝ }
+        ensures next { λ _. ⌜ view (now (self .exit)) .next ≡ view (now (self .entry)) .next ⌝ }
     {
         self.nodes.release(context);
         settle(&mut self.nodes, &mut self.links);
@@ -85,6 +88,7 @@ impl Tree {
         ensures answer { λ r. ⌜ r ≡ view (now (self .entry)) .next ⌝ }
         ensures state { λ _. ⌜ view (now (self .exit)) ≡ seated context task (view (now (self .entry))) ⌝ }
         ensures serials { λ _. ⌜ Aged (view (now (self .entry))) (view (now (self .exit))) ⌝ }
+        ensures next { λ _. ⌜ view (now (self .exit)) .next ≡ view (now (self .entry)) .next + 1 ⌝ }
     {
         let serial = bear(&mut self.nodes, &mut self.links, context, task);
         self.nodes.seat(context, task);

@@ -12,6 +12,7 @@ impl Tree {
     pub fn close_all(&mut self, task: u64)
         ensures state { λ _. ⌜ view (now (self .exit)) ≡ closed-all task (view (now (self .entry))) ⌝ }
         ensures serials { λ _. ⌜ Aged (view (now (self .entry))) (view (now (self .exit))) ⌝ }
+        ensures next { λ _. ⌜ view (now (self .exit)) .next ≡ view (now (self .entry)) .next ⌝ }
     {
         self.nodes.release_all(task);
         settle(&mut self.nodes, &mut self.links);
@@ -25,6 +26,7 @@ impl Tree {
         ensures marks { λ _. ⌜ given-tasks (now (self .exit)) ≡ cascaded node (view (now (self .entry))) .1 ⌝ }
         ensures law { λ _. ⌜ Cascaded (view (now (self .entry))) (view (now (self .exit))) node (given-tasks (now (self .exit))) ⌝ }
         ensures serials { λ _. ⌜ Aged (view (now (self .entry))) (view (now (self .exit))) ⌝ }
+        ensures next { λ _. ⌜ view (now (self .exit)) .next ≡ view (now (self .entry)) .next ⌝ }
     {
         self.walk.abort(&mut self.nodes, &mut self.links, node);
     }
@@ -33,6 +35,7 @@ impl Tree {
     pub fn leave(&mut self, task: u64)
         ensures state { λ _. ⌜ view (now (self .exit)) ≡ left task (view (now (self .entry))) ⌝ }
         ensures serials { λ _. ⌜ Aged (view (now (self .entry))) (view (now (self .exit))) ⌝ }
+        ensures next { λ _. ⌜ view (now (self .exit)) .next ≡ view (now (self .entry)) .next ⌝ }
     {
         self.nodes.vacate(task);
         settle(&mut self.nodes, &mut self.links);

@@ -1,12 +1,13 @@
-use mathlib.Core.Path.{refl, sym, subst}
+use mathlib.Core.Path.{refl, sym, ap, subst, _∙_}
 use mathlib.Core.Bool.{true, false}
+use native.Mathlib.Omega.{arith}
 use borrow.Author.Needs.{needs}
-use Rattle.lineage.specs.Family.{family-of}
+use Rattle.lineage.specs.Family.{Family, family-of}
 use Rattle.lineage.proofs.Newborn.{same-family}
 use Rattle.supervision.specs.Laws.{Aged}
 use Rattle.supervision.specs.Calls.{view}
 use Rattle.supervision.proofs.Whole.{facts-of, whole-of, whole-alone, whole-born, open-lives, flag-at, not-refused}
-use Rattle.supervision.proofs.Ages.{aged-stillborn, aged-born}
+use Rattle.supervision.proofs.Ages.{aged-stillborn, aged-born, next-born}
 use Rattle.supervision.proofs.Tree.child.Needs as need
 
 pub ghost-self : need.ghost-self
@@ -16,7 +17,8 @@ pub returns-then-is-aborted : need.returns-then-is-aborted
 returns-then-is-aborted c = record {
       answer = search needs;
       state = search needs;
-      serials = subst (Aged (view (c .args .self .now))) (sym (same-family (c .add-serial .ensures .nodes) refl (c .add-serial .ensures .next))) (aged-stillborn (c .args .task) (view (c .args .self .now)))
+      serials = subst (Aged (view (c .args .self .now))) (sym (same-family (c .add-serial .ensures .nodes) refl (c .add-serial .ensures .next))) (aged-stillborn (c .args .task) (view (c .args .self .now)));
+      next = omega (arith, c .add-serial .ensures .next)
     }
 
 pub ghost-self-2 : need.ghost-self-2
@@ -29,5 +31,8 @@ pub returns : need.returns
 returns c = record {
       answer = search needs;
       state = search needs;
-      serials = subst (Aged (view (c .args .self .now))) (sym (c .bear-serial .ensures .after)) (aged-born (c .args .context) (c .args .task) (view (c .args .self .now)))
+      serials = subst (Aged (view (c .args .self .now))) (sym (c .bear-serial .ensures .after)) (aged-born (c .args .context) (c .args .task) (view (c .args .self .now)));
+      next =
+        let is = ap (λ (f : Family). f .next) (c .bear-serial .ensures .after) ∙ next-born (c .args .context) (c .args .task) (view (c .args .self .now)) in
+        omega (arith, is)
     }

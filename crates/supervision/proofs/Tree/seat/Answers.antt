@@ -1,12 +1,12 @@
 use mathlib.Core.Path.{refl, sym, ap, subst, _∙_}
 use mathlib.Core.Bool.{false}
 use Rattle.nodes.specs.Node.{taken}
-use Rattle.lineage.specs.Family.{family-of, changed}
+use Rattle.lineage.specs.Family.{Family, family-of, changed}
 use Rattle.lineage.proofs.Newborn.{same-family}
 use Rattle.supervision.specs.Laws.{Aged}
 use Rattle.supervision.specs.Calls.{view}
 use Rattle.supervision.proofs.Whole.{facts-of, whole-of, whole-seated, open-lives, flag-at}
-use Rattle.supervision.proofs.Ages.{aged-seated}
+use Rattle.supervision.proofs.Ages.{aged-seated, next-born}
 use Rattle.supervision.proofs.Tree.seat.Needs as need
 
 pub ghost-self : need.ghost-self
@@ -22,5 +22,6 @@ returns c =
     record {
       answer = c .bear-serial .ensures .serial;
       state = same;
-      serials = subst (Aged (view (c .args .self .now))) (sym same) (aged-seated (c .args .context) (c .args .task) (view (c .args .self .now)))
+      serials = subst (Aged (view (c .args .self .now))) (sym same) (aged-seated (c .args .context) (c .args .task) (view (c .args .self .now)));
+      next = ap (λ (f : Family). f .next) same ∙ next-born (c .args .context) (c .args .task) (view (c .args .self .now))
     }
