@@ -40,8 +40,8 @@ module _ {X : Type 0} (key : X → ℕ) where
     pub find-map : (k : ℕ) (xs : List X) → find key k (map g xs) ≡ mapped g (find key k xs)
     find-map k [] = refl
     find-map k (x ∷ xs) =
-      let rest = find-map k xs in
-      rw (same x) (elim (eqb (key x) k) as (λ b. cond b (Some (g x)) (find key k (map g xs)) ≡ mapped g (cond b (Some x) (find key k xs))) [ true ↦ refl | false ↦ rest ])
+        let rest = find-map k xs in
+        rw (same x) (elim (eqb (key x) k) as (λ b. cond b (Some (g x)) (find key k (map g xs)) ≡ mapped g (cond b (Some x) (find key k xs))) [ true ↦ refl | false ↦ rest ])
 
     pub ordered-map : (lo hi : ℕ) (xs : List X) → ordered key lo hi (map g xs) ≡ ordered key lo hi xs
     ordered-map lo hi [] = refl

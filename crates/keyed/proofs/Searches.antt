@@ -82,15 +82,15 @@ module _ {X : Type 0} (test : X → Bool) where
   pub first-none-any : (xs : List X) → first test xs ≡ None → any test xs ≡ false
   first-none-any [] h = refl
   first-none-any (y ∷ ys) h = elim (cases-bool (test y)) [
-        inl t ↦ (let g : Some y ≡ None = rw t at h in absurd (some-not-none g refl))
-      | inr t ↦ or-from (test y) (any test ys) t (first-none-any ys (rw t at h))
-      ]
+    | inl t ↦ (let g : Some y ≡ None = rw t at h in absurd (some-not-none g refl))
+    | inr t ↦ or-from (test y) (any test ys) t (first-none-any ys (rw t at h))
+  ]
 
   pub any-none-first : (xs : List X) → any test xs ≡ false → first test xs ≡ None
   any-none-first [] h = refl
   any-none-first (y ∷ ys) h =
-    let p = or-parts (test y) (any test ys) h in
-    rw (p .0) (any-none-first ys (p .1))
+      let p = or-parts (test y) (any test ys) h in
+      rw (p .0) (any-none-first ys (p .1))
 
   pub none-any : (xs : List X) → ((x : X) → In x xs → test x ≡ false) → any test xs ≡ false
   none-any [] h = refl
@@ -104,16 +104,16 @@ module _ {X : Type 0} (test : X → Bool) where
 
   pub any-parts : (xs ys : List X) → any test (xs ++ ys) ≡ true → (any test xs ≡ true) ⊎ (any test ys ≡ true)
   any-parts xs ys h =
-    let w = in-any (xs ++ ys) h in
-    elim (in-parts (w .0) xs ys (w .1)) [ inl i ↦ inl (any-in (w .0) xs i (w .2)) | inr i ↦ inr (any-in (w .0) ys i (w .2)) ]
+      let w = in-any (xs ++ ys) h in
+      elim (in-parts (w .0) xs ys (w .1)) [ inl i ↦ inl (any-in (w .0) xs i (w .2)) | inr i ↦ inr (any-in (w .0) ys i (w .2)) ]
 
   -- a filter that keeps what passes
   pub any-kept : (keep : X → Bool) (xs : List X) → any test xs ≡ true → ((x : X) → test x ≡ true → keep x ≡ true) → any test (kept-by keep xs) ≡ true
   any-kept keep xs h keeps =
-    let w = in-any xs h in
-    any-in (w .0) (kept-by keep xs) (in-kept keep (w .0) xs (w .1) (keeps (w .0) (w .2))) (w .2)
+      let w = in-any xs h in
+      any-in (w .0) (kept-by keep xs) (in-kept keep (w .0) xs (w .1) (keeps (w .0) (w .2))) (w .2)
 
   pub any-unkept : (keep : X → Bool) (xs : List X) → any test (kept-by keep xs) ≡ true → any test xs ≡ true
   any-unkept keep xs h =
-    let w = in-any (kept-by keep xs) h in
-    any-in (w .0) xs (in-unkept keep (w .0) xs (w .1)) (w .2)
+      let w = in-any (kept-by keep xs) h in
+      any-in (w .0) xs (in-unkept keep (w .0) xs (w .1)) (w .2)

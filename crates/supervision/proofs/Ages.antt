@@ -52,15 +52,15 @@ none-or-some (Some x) = inr (x, refl)
 
 none-without : (s t : ℕ) (ns : List Node) → find serial-of t ns ≡ None → find serial-of t (without serial-of s ns) ≡ None
 none-without s t ns h = elim (none-or-some (find serial-of t (without serial-of s ns))) [
-      inl e ↦ e
-    | inr e ↦ absurd (some-not-none h (find-without serial-of s t ns (e .0) (e .1)))
-    ]
+  | inl e ↦ e
+  | inr e ↦ absurd (some-not-none h (find-without serial-of s t ns (e .0) (e .1)))
+]
 
 none-push : (k t : ℕ) (ns : List Node) (n : Node) → serial-of n ≡ k → t < k → find serial-of t ns ≡ None → find serial-of t (ns ++ n ∷ []) ≡ None
 none-push k t ns n is l h = elim (none-or-some (find serial-of t (ns ++ n ∷ []))) [
-      inl e ↦ e
-    | inr e ↦ elim (find-push serial-of t ns n (e .0) (e .1)) [ inl o ↦ absurd (some-not-none h o) | inr f ↦ absurd (omega (arith, f .1, is)) ]
-    ]
+  | inl e ↦ e
+  | inr e ↦ elim (find-push serial-of t ns n (e .0) (e .1)) [ inl o ↦ absurd (some-not-none h o) | inr f ↦ absurd (omega (arith, f .1, is)) ]
+]
 
 pub aged-changed : (f : Node → Node) → ((n : Node) → serial-of (f n) ≡ serial-of n) → (s : ℕ) (F : Family) (G : Family) → G .nodes ≡ change serial-of f s (F .nodes) → G .next ≡ F .next → Aged F G
 aged-changed f same s F G is next = by-nodes F (change serial-of f s (F .nodes)) (F .next) (omega arith) (λ t l h. none-change f same s t (F .nodes) h) G is next

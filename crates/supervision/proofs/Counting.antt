@@ -34,15 +34,15 @@ struck-hit k lo hi s [] n o found q = absurd (some-not-none refl found)
 struck-hit k lo hi s (x ∷ xs) n o found q =
     let p = ordered-first serial-of lo hi x xs o in
     elim (cases-bool (eqb (serial-of x) s)) [
-      inl e ↦
-        let is : x ≡ n = (let f = rw e at found in cc) in
-        let a : x .aborted ≡ false = ap (λ (m : Node). m .aborted) is ∙ q in
-        let t : cond (seats k x) 1 0 ≡ times k (listOf (n .task)) = times-task k (x .task) ∙ ap (λ (m : Node). times k (listOf (m .task))) is in
-        let low = change-low serial-of condemned (suc (serial-of x)) hi s xs (p .1) (omega (arith, eqb-true (serial-of x) s e)) in
-        rw (e, a, low) (omega (arith, t))
-    | inr e ↦
-        let rest = struck-hit k (suc (serial-of x)) hi s xs n (p .1) (rw e at found) q in
-        rw e (omega (arith, rest))
+      | inl e ↦
+          let is : x ≡ n = (let f = rw e at found in cc) in
+          let a : x .aborted ≡ false = ap (λ (m : Node). m .aborted) is ∙ q in
+          let t : cond (seats k x) 1 0 ≡ times k (listOf (n .task)) = times-task k (x .task) ∙ ap (λ (m : Node). times k (listOf (m .task))) is in
+          let low = change-low serial-of condemned (suc (serial-of x)) hi s xs (p .1) (omega (arith, eqb-true (serial-of x) s e)) in
+          rw (e, a, low) (omega (arith, t))
+      | inr e ↦
+          let rest = struck-hit k (suc (serial-of x)) hi s xs n (p .1) (rw e at found) q in
+          rw e (omega (arith, rest))
     ]
 
 abbrev Ordered : Family → Type 0
@@ -75,7 +75,7 @@ cascade-law top F ok =
       all-under = λ t n u l. under-aborted F (cascaded top F .0) top w u n l;
       only-under = λ t n l a. (w .came t n l .was, w .came t n l .lived, w .came t n l .aborts a);
       all-live = λ t m l. (w .goes t m l .is, w .goes t m l .lives, w .goes t m l .stays);
-      given-once = λ k. walk-counted k (1 + length (F .links)) (top ∷ []) F (ok .solid .frame .order)
+      given-once = λ k. walk-counted k (1 + length (F .links)) (top ∷ []) F (ok .solid .frame .order);
     }
 
 pub whole-cascaded : (top : ℕ) (F : Family) → Whole F → Whole (cascaded top F .0)

@@ -45,21 +45,21 @@ module _ (F : Family) (n : Node) (ok : Solid F) (h : doomed F ≡ Some n) where
   -- no living node has the doomed one for its parent
   no-child : (b : Born (gone F n)) → b .parent ≡ n .serial → ⊥
   no-child b e =
-    let lived = find-without serial-of (n .serial) (b .serial) (F .nodes) (b .node) (b .lives) in
-    let none = not-any (child-of (n .serial)) (F .nodes) (childless F n h) (b .node) (find-in serial-of (b .serial) (F .nodes) (b .node) lived) in
-    both-ways (child-of (n .serial) (b .node)) none (ap (λ p. child-of p (b .node)) (sym e) ∙ b .under)
+      let lived = find-without serial-of (n .serial) (b .serial) (F .nodes) (b .node) (b .lives) in
+      let none = not-any (child-of (n .serial)) (F .nodes) (childless F n h) (b .node) (find-in serial-of (b .serial) (F .nodes) (b .node) lived) in
+      both-ways (child-of (n .serial) (b .node)) none (ap (λ p. child-of p (b .node)) (sym e) ∙ b .under)
 
   solid-gone : Solid (gone F n)
   solid-gone =
-    let v : Loose F (gone F n) = record {
-          order = ordered-without serial-of 0 (F .next) (n .serial) (F .nodes) (ok .frame .order);
-          same-next = refl;
-          old = λ t n′ l. record { was = n′; lived = find-without serial-of (n .serial) t (F .nodes) n′ l; parents = refl };
-          fewer = λ p s k. k;
-          roots = λ b s. ap isSome (find-without-other serial-of (n .serial) (b .parent) (F .nodes) (no-child b)) ∙ s
-        } in
-    let w : Within F (gone F n) = record { loose = v; flags = λ t n′ l. refl; enough = λ k j. j } in
-    solid-within F (gone F n) w ok
+      let v : Loose F (gone F n) = record {
+        order = ordered-without serial-of 0 (F .next) (n .serial) (F .nodes) (ok .frame .order);
+        same-next = refl;
+        old = λ t n′ l. record { was = n′; lived = find-without serial-of (n .serial) t (F .nodes) n′ l; parents = refl };
+        fewer = λ p s k. k;
+        roots = λ b s. ap isSome (find-without-other serial-of (n .serial) (b .parent) (F .nodes) (no-child b)) ∙ s;
+      } in
+      let w : Within F (gone F n) = record { loose = v; flags = λ t n′ l. refl; enough = λ k j. j } in
+      solid-within F (gone F n) w ok
 
   solid-unlinked : Solid (unlinked F n)
   solid-unlinked = solid-dropped (elsewhere (n .serial)) (gone F n) (λ k l j. ap not (ne-eqb (l .parent) (n .serial) (λ e. no-child (k .born) (sym (joins-parent (k .born .parent) (k .born .serial) l j) ∙ e)))) solid-gone

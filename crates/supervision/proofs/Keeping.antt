@@ -37,18 +37,18 @@ pub kept-map : (g : Node → Node) → ((n : Node) → g n .serial ≡ n .serial
 kept-map g serials parents holds-on ns all =
     let children : (k : ℕ) → any (child-of k) (map g ns) ≡ any (child-of k) ns = λ k. any-map (child-of k) g (λ n. ap (holds k) (parents n)) ns in
     let still : (x : Node) → kept ns x ≡ true → kept (map g ns) (g x) ≡ true = λ x h. elim (or-cases (held x) (any (child-of (x .serial)) ns) h) [
-          inl t ↦ or-left (held (g x)) (any (child-of (g x .serial)) (map g ns)) (holds-on x t)
-        | inr t ↦ or-right (held (g x)) (any (child-of (g x .serial)) (map g ns)) (ap (λ k. any (child-of k) (map g ns)) (serials x) ∙ (children (x .serial) ∙ t))
-        ] in
+      | inl t ↦ or-left (held (g x)) (any (child-of (g x .serial)) (map g ns)) (holds-on x t)
+      | inr t ↦ or-right (held (g x)) (any (child-of (g x .serial)) (map g ns)) (ap (λ k. any (child-of k) (map g ns)) (serials x) ∙ (children (x .serial) ∙ t))
+    ] in
     none-any (unkept (map g ns)) (map g ns) (λ y i.
-      let w = in-map g y ns i in
-      ap (unkept (map g ns)) (w .2) ∙ ap not (still (w .0) (not-false (kept ns (w .0)) (not-any (unkept ns) ns all (w .0) (w .1)))))
+    let w = in-map g y ns i in
+    ap (unkept (map g ns)) (w .2) ∙ ap not (still (w .0) (not-false (kept ns (w .0)) (not-any (unkept ns) ns all (w .0) (w .1)))))
 
 pub kept-change : (f : Node → Node) → ((n : Node) → f n .serial ≡ n .serial) → ((n : Node) → f n .parent ≡ n .parent) → ((n : Node) → held n ≡ true → held (f n) ≡ true) → (s : ℕ) (ns : List Node) → AllKept ns → AllKept (change serial-of f s ns)
 kept-change f serials parents holds-on s ns all =
     subst AllKept (sym (change-map serial-of f s ns))
     (kept-map (on serial-of s f) (on-same serial-of (λ (n : Node). n .serial) f serials s) (on-same serial-of (λ (n : Node). n .parent) f parents s)
-      (λ n h. elim (eqb (serial-of n) s) as (λ b. held (cond b (f n) n) ≡ true) [ true ↦ holds-on n h | false ↦ h ]) ns all)
+    (λ n h. elim (eqb (serial-of n) s) as (λ b. held (cond b (f n) n) ≡ true) [ true ↦ holds-on n h | false ↦ h ]) ns all)
 
 -- one more node, whose context is open
 pub kept-grown : (serial : ℕ) (parent : Option ℕ) (aborted : Bool) (owner : ℕ) (ns : List Node) → AllKept ns → AllKept (ns ++ fresh serial parent aborted owner ∷ [])
@@ -56,11 +56,11 @@ kept-grown serial parent aborted owner ns all =
     let new : Node = fresh serial parent aborted owner in
     let ms : List Node = ns ++ new ∷ [] in
     none-any (unkept ms) ms (λ x i. elim (in-parts x ns (new ∷ []) i) [
-        inl o ↦
+      | inl o ↦
           let was : kept ns x ≡ true = not-false (kept ns x) (not-any (unkept ns) ns all x o) in
           ap not (elim (or-cases (held x) (any (child-of (x .serial)) ns) was) as (λ _. kept ms x ≡ true) [
-            inl t ↦ or-left (held x) (any (child-of (x .serial)) ms) t
-          | inr t ↦ or-right (held x) (any (child-of (x .serial)) ms) (any-left (child-of (x .serial)) ns (new ∷ []) t)
+            | inl t ↦ or-left (held x) (any (child-of (x .serial)) ms) t
+            | inr t ↦ or-right (held x) (any (child-of (x .serial)) ms) (any-left (child-of (x .serial)) ns (new ∷ []) t)
           ])
       | inr o ↦ elim o [ inl e ↦ ap (unkept ms) e | inr z ↦ absurd z ]
-      ])
+    ])

@@ -49,9 +49,9 @@ module _ (aborted : Bool) (owner : ℕ) (F : Family) (ok : Solid F) where
 
   old-born : (b : Born after) → Lives F (b .serial) (b .node)
   old-born b = elim (find-push serial-of (b .serial) (F .nodes) alone (b .node) (b .lives)) [
-        inl l ↦ l
-      | inr e ↦ absurd (false≢true (ap (child-of (b .parent)) (sym (e .0)) ∙ b .under))
-      ]
+    | inl l ↦ l
+    | inr e ↦ absurd (false≢true (ap (child-of (b .parent)) (sym (e .0)) ∙ b .under))
+  ]
 
   as-born : Born after → Born F
   as-born b = record { serial = b .serial; node = b .node; parent = b .parent; lives = old-born b; under = b .under }
@@ -59,9 +59,9 @@ module _ (aborted : Bool) (owner : ℕ) (F : Family) (ok : Solid F) where
   old-parent : (k : Kin after) → Lives F (k .born .parent) (k .above)
   unfolding as-born
   old-parent k = elim (find-push serial-of (k .born .parent) (F .nodes) alone (k .above) (k .stands)) [
-        inl l ↦ l
-      | inr e ↦ absurd (omega (arith, parent-low F (ok .frame) (as-born (k .born)), e .1))
-      ]
+    | inl l ↦ l
+    | inr e ↦ absurd (omega (arith, parent-low F (ok .frame) (as-born (k .born)), e .1))
+  ]
 
   as-kin : Kin after → Kin F
   unfolding as-born
@@ -70,20 +70,20 @@ module _ (aborted : Bool) (owner : ℕ) (F : Family) (ok : Solid F) where
   pub solid-alone : Solid (grown None aborted owner F)
   unfolding as-born as-kin
   solid-alone = record {
-      frame = record {
-        order = ordered-push serial-of 0 (F .next) (F .nodes) alone (ok .frame .order) refl;
-        rooted = λ b.
+    frame = record {
+      order = ordered-push serial-of 0 (F .next) (F .nodes) alone (ok .frame .order) refl;
+      rooted = λ b.
           let up = some-is (node-at (b .parent) F) (ok .frame .rooted (as-born b)) in
           isSome-is (node-at (b .parent) after) (up .0) (find-push-old serial-of (b .parent) (F .nodes) alone (up .0) (up .1));
-        honest = λ l. elim (find-push serial-of (l .serial) (F .nodes) alone (l .node) (l .lives)) [
-            inl o ↦ ok .frame .honest (record { parent = l .parent; serial = l .serial; node = l .node; links = l .links; lives = o })
-          | inr e ↦ absurd (omega (arith, link-low F (ok .frame) (record { parent = l .parent; serial = l .serial; links = l .links }), e .1))
-          ];
-        past = λ l. lt-ltb (l .serial) (F .next + 1) (omega (arith, link-low F (ok .frame) (record { parent = l .parent; serial = l .serial; links = l .links })))
-      };
-      shielded = λ k a. ok .shielded (as-kin k) a;
-      linked = λ k a. ok .linked (as-kin k) a
-    }
+      honest = λ l. elim (find-push serial-of (l .serial) (F .nodes) alone (l .node) (l .lives)) [
+        | inl o ↦ ok .frame .honest (record { parent = l .parent; serial = l .serial; node = l .node; links = l .links; lives = o })
+        | inr e ↦ absurd (omega (arith, link-low F (ok .frame) (record { parent = l .parent; serial = l .serial; links = l .links }), e .1))
+      ];
+      past = λ l. lt-ltb (l .serial) (F .next + 1) (omega (arith, link-low F (ok .frame) (record { parent = l .parent; serial = l .serial; links = l .links })));
+    };
+    shielded = λ k a. ok .shielded (as-kin k) a;
+    linked = λ k a. ok .linked (as-kin k) a;
+  }
 
 -- a child of the node p₀, which lives and is not aborted, linked there
 module _ (p₀ owner : ℕ) (F : Family) (m₀ : Node) (ok : Solid F) (up : Lives F p₀ m₀) (quiet : m₀ .aborted ≡ false) where
@@ -104,12 +104,12 @@ module _ (p₀ owner : ℕ) (F : Family) (m₀ : Node) (ok : Solid F) (up : Live
   was-parent : (k : Kin tree) → Lives F (k .born .parent) (k .above)
   unfolding was-born
   was-parent k = elim (find-push serial-of (k .born .parent) (F .nodes) child (k .above) (k .stands)) [
-        inl l ↦ l
-      | inr e ↦ elim (find-push serial-of (k .born .serial) (F .nodes) child (k .born .node) (k .born .lives)) [
-            inl l ↦ absurd (omega (arith, parent-low F (ok .frame) (was-born (k .born) l), e .1))
-          | inr f ↦ absurd (omega (arith, lives-low F (ok .frame) p₀ m₀ up, its-parent (k .born) (f .0), e .1))
-          ]
-      ]
+    | inl l ↦ l
+    | inr e ↦ elim (find-push serial-of (k .born .serial) (F .nodes) child (k .born .node) (k .born .lives)) [
+      | inl l ↦ absurd (omega (arith, parent-low F (ok .frame) (was-born (k .born) l), e .1))
+      | inr f ↦ absurd (omega (arith, lives-low F (ok .frame) p₀ m₀ up, its-parent (k .born) (f .0), e .1))
+    ]
+  ]
 
   was-kin : (k : Kin tree) → Lives F (k .born .serial) (k .born .node) → Kin F
   unfolding was-born
@@ -118,65 +118,65 @@ module _ (p₀ owner : ℕ) (F : Family) (m₀ : Node) (ok : Solid F) (up : Live
   born-rooted : (b : Born tree) → isSome (node-at (b .parent) tree) ≡ true
   unfolding was-born
   born-rooted b = elim (find-push serial-of (b .serial) (F .nodes) child (b .node) (b .lives)) [
-        inl l ↦
-          let above = some-is (node-at (b .parent) F) (ok .frame .rooted (was-born b l)) in
-          isSome-is (node-at (b .parent) tree) (above .0) (find-push-old serial-of (b .parent) (F .nodes) child (above .0) (above .1))
-      | inr f ↦ isSome-is (node-at (b .parent) tree) m₀ (subst (λ z. node-at z tree ≡ Some m₀) (its-parent b (f .0)) (find-push-old serial-of p₀ (F .nodes) child m₀ up))
-      ]
+    | inl l ↦
+        let above = some-is (node-at (b .parent) F) (ok .frame .rooted (was-born b l)) in
+        isSome-is (node-at (b .parent) tree) (above .0) (find-push-old serial-of (b .parent) (F .nodes) child (above .0) (above .1))
+    | inr f ↦ isSome-is (node-at (b .parent) tree) m₀ (subst (λ z. node-at z tree ≡ Some m₀) (its-parent b (f .0)) (find-push-old serial-of p₀ (F .nodes) child m₀ up))
+  ]
 
   born-honest : (l : Led tree) → child-of (l .parent) (l .node) ≡ true
   born-honest l = elim (any-parts (joins (l .parent) (l .serial)) (F .links) (link p₀ (F .next) ∷ []) (l .links)) [
-        inl h ↦ elim (find-push serial-of (l .serial) (F .nodes) child (l .node) (l .lives)) [
-            inl o ↦ ok .frame .honest (record { parent = l .parent; serial = l .serial; node = l .node; links = h; lives = o })
-          | inr f ↦ absurd (omega (arith, link-low F (ok .frame) (record { parent = l .parent; serial = l .serial; links = h }), f .1))
+    | inl h ↦ elim (find-push serial-of (l .serial) (F .nodes) child (l .node) (l .lives)) [
+      | inl o ↦ ok .frame .honest (record { parent = l .parent; serial = l .serial; node = l .node; links = h; lives = o })
+      | inr f ↦ absurd (omega (arith, link-low F (ok .frame) (record { parent = l .parent; serial = l .serial; links = h }), f .1))
+    ]
+    | inr h ↦ elim (or-cases (joins (l .parent) (l .serial) (link p₀ (F .next))) false h) [
+      | inr z ↦ absurd (false≢true z)
+      | inl t ↦
+          let both = and-parts (eqb p₀ (l .parent)) (eqb (F .next) (l .serial)) t in
+          elim (find-push serial-of (l .serial) (F .nodes) child (l .node) (l .lives)) [
+            | inl o ↦ absurd (omega (arith, lives-low F (ok .frame) (l .serial) (l .node) o, eqb-true (F .next) (l .serial) (both .1)))
+            | inr f ↦ ap (child-of (l .parent)) (f .0) ∙ both .0
           ]
-      | inr h ↦ elim (or-cases (joins (l .parent) (l .serial) (link p₀ (F .next))) false h) [
-            inr z ↦ absurd (false≢true z)
-          | inl t ↦
-              let both = and-parts (eqb p₀ (l .parent)) (eqb (F .next) (l .serial)) t in
-              elim (find-push serial-of (l .serial) (F .nodes) child (l .node) (l .lives)) [
-                inl o ↦ absurd (omega (arith, lives-low F (ok .frame) (l .serial) (l .node) o, eqb-true (F .next) (l .serial) (both .1)))
-              | inr f ↦ ap (child-of (l .parent)) (f .0) ∙ both .0
-              ]
-          ]
-      ]
+    ]
+  ]
 
   born-past : (l : Joined tree) → ltb (l .serial) (F .next + 1) ≡ true
   born-past l = elim (any-parts (joins (l .parent) (l .serial)) (F .links) (link p₀ (F .next) ∷ []) (l .links)) [
-        inl h ↦ lt-ltb (l .serial) (F .next + 1) (omega (arith, link-low F (ok .frame) (record { parent = l .parent; serial = l .serial; links = h })))
-      | inr h ↦ elim (or-cases (joins (l .parent) (l .serial) (link p₀ (F .next))) false h) [
-            inr z ↦ absurd (false≢true z)
-          | inl t ↦ lt-ltb (l .serial) (F .next + 1) (omega (arith, eqb-true (F .next) (l .serial) (and-parts (eqb p₀ (l .parent)) (eqb (F .next) (l .serial)) t .1)))
-          ]
-      ]
+    | inl h ↦ lt-ltb (l .serial) (F .next + 1) (omega (arith, link-low F (ok .frame) (record { parent = l .parent; serial = l .serial; links = h })))
+    | inr h ↦ elim (or-cases (joins (l .parent) (l .serial) (link p₀ (F .next))) false h) [
+      | inr z ↦ absurd (false≢true z)
+      | inl t ↦ lt-ltb (l .serial) (F .next + 1) (omega (arith, eqb-true (F .next) (l .serial) (and-parts (eqb p₀ (l .parent)) (eqb (F .next) (l .serial)) t .1)))
+    ]
+  ]
 
   born-shielded : (k : Kin tree) → k .above .aborted ≡ true → k .born .node .aborted ≡ true
   unfolding was-born was-kin
   born-shielded k a = elim (find-push serial-of (k .born .serial) (F .nodes) child (k .born .node) (k .born .lives)) [
-        inl l ↦ ok .shielded (was-kin k l) a
-      | inr f ↦
-          let is : k .above ≡ m₀ = same-some (subst (λ z. node-at z F ≡ Some (k .above)) (sym (its-parent (k .born) (f .0))) (was-parent k)) up in
-          absurd (both-ways (k .above .aborted) (ap (λ (n : Node). n .aborted) is ∙ quiet) a)
-      ]
+    | inl l ↦ ok .shielded (was-kin k l) a
+    | inr f ↦
+        let is : k .above ≡ m₀ = same-some (subst (λ z. node-at z F ≡ Some (k .above)) (sym (its-parent (k .born) (f .0))) (was-parent k)) up in
+        absurd (both-ways (k .above .aborted) (ap (λ (n : Node). n .aborted) is ∙ quiet) a)
+  ]
 
   born-linked : (k : Kin tree) → k .above .aborted ≡ false → has-link (k .born .parent) (k .born .serial) tree ≡ true
   unfolding was-born was-kin
   born-linked k a = elim (find-push serial-of (k .born .serial) (F .nodes) child (k .born .node) (k .born .lives)) [
-        inl l ↦ any-left (joins (k .born .parent) (k .born .serial)) (F .links) (link p₀ (F .next) ∷ []) (ok .linked (was-kin k l) a)
-      | inr f ↦ any-right (joins (k .born .parent) (k .born .serial)) (F .links) (link p₀ (F .next) ∷ []) (or-left (joins (k .born .parent) (k .born .serial) (link p₀ (F .next))) false (and-from (eqb p₀ (k .born .parent)) (eqb (F .next) (k .born .serial)) (eq-eqb p₀ (k .born .parent) (its-parent (k .born) (f .0))) (eq-eqb (F .next) (k .born .serial) (f .1))))
-      ]
+    | inl l ↦ any-left (joins (k .born .parent) (k .born .serial)) (F .links) (link p₀ (F .next) ∷ []) (ok .linked (was-kin k l) a)
+    | inr f ↦ any-right (joins (k .born .parent) (k .born .serial)) (F .links) (link p₀ (F .next) ∷ []) (or-left (joins (k .born .parent) (k .born .serial) (link p₀ (F .next))) false (and-from (eqb p₀ (k .born .parent)) (eqb (F .next) (k .born .serial)) (eq-eqb p₀ (k .born .parent) (its-parent (k .born) (f .0))) (eq-eqb (F .next) (k .born .serial) (f .1))))
+  ]
 
   pub solid-joined : Solid (joined p₀ owner F)
   solid-joined = record {
-      frame = record {
-        order = ordered-push serial-of 0 (F .next) (F .nodes) child (ok .frame .order) refl;
-        rooted = born-rooted;
-        honest = born-honest;
-        past = born-past
-      };
-      shielded = born-shielded;
-      linked = born-linked
-    }
+    frame = record {
+      order = ordered-push serial-of 0 (F .next) (F .nodes) child (ok .frame .order) refl;
+      rooted = born-rooted;
+      honest = born-honest;
+      past = born-past;
+    };
+    shielded = born-shielded;
+    linked = born-linked;
+  }
 
 -- tidying leaves a node as it is, but for its count of dead children
 lives-tidied : (p : ℕ) (F : Family) (m : Node) → Lives F p m → m .aborted ≡ false → (n : Node) × Lives (tidied p F) p n × (n .aborted ≡ false)

@@ -58,25 +58,25 @@ pub record Within (F G : Family) : Type 0 where
 -- a node and its parent, as they were
 abbrev pub born-back : (F G : Family) → Loose F G → Born G → Born F
 born-back F G w b = record {
-      serial = b .serial;
-      node = w .old (b .serial) (b .node) (b .lives) .was;
-      parent = b .parent;
-      lives = w .old (b .serial) (b .node) (b .lives) .lived;
-      under = ap (holds (b .parent)) (sym (w .old (b .serial) (b .node) (b .lives) .parents)) ∙ b .under
-    }
+  serial = b .serial;
+  node = w .old (b .serial) (b .node) (b .lives) .was;
+  parent = b .parent;
+  lives = w .old (b .serial) (b .node) (b .lives) .lived;
+  under = ap (holds (b .parent)) (sym (w .old (b .serial) (b .node) (b .lives) .parents)) ∙ b .under;
+}
 
 abbrev pub kin-back : (F G : Family) → Loose F G → Kin G → Kin F
 kin-back F G w k = record { born = born-back F G w (k .born); above = w .old (k .born .parent) (k .above) (k .stands) .was; stands = w .old (k .born .parent) (k .above) (k .stands) .lived }
 
 pub frame-loose : (F G : Family) → Loose F G → Frame F → Frame G
 frame-loose F G w ok = record {
-      order = w .order;
-      rooted = λ b. w .roots b (ok .rooted (born-back F G w b));
-      honest = λ l.
-        let o = w .old (l .serial) (l .node) (l .lives) in
-        ap (holds (l .parent)) (o .parents) ∙ ok .honest (record { parent = l .parent; serial = l .serial; node = o .was; links = w .fewer (l .parent) (l .serial) (l .links); lives = o .lived });
-      past = λ l. ap (λ k. ltb (l .serial) k) (w .same-next) ∙ ok .past (record { parent = l .parent; serial = l .serial; links = w .fewer (l .parent) (l .serial) (l .links) })
-    }
+  order = w .order;
+  rooted = λ b. w .roots b (ok .rooted (born-back F G w b));
+  honest = λ l.
+      let o = w .old (l .serial) (l .node) (l .lives) in
+      ap (holds (l .parent)) (o .parents) ∙ ok .honest (record { parent = l .parent; serial = l .serial; node = o .was; links = w .fewer (l .parent) (l .serial) (l .links); lives = o .lived });
+  past = λ l. ap (λ k. ltb (l .serial) k) (w .same-next) ∙ ok .past (record { parent = l .parent; serial = l .serial; links = w .fewer (l .parent) (l .serial) (l .links) });
+}
 
 pub solid-within : (F G : Family) → Within F G → Solid F → Solid G
 solid-within F G w ok =
@@ -84,7 +84,7 @@ solid-within F G w ok =
     record {
       frame = frame-loose F G v (ok .frame);
       shielded = λ k a. w .flags (k .born .serial) (k .born .node) (k .born .lives) ∙ ok .shielded (kin-back F G v k) (sym (w .flags (k .born .parent) (k .above) (k .stands)) ∙ a);
-      linked = λ k a. w .enough k (ok .linked (kin-back F G v k) (sym (w .flags (k .born .parent) (k .above) (k .stands)) ∙ a))
+      linked = λ k a. w .enough k (ok .linked (kin-back F G v k) (sym (w .flags (k .born .parent) (k .above) (k .stands)) ∙ a));
     }
 
 -- each node is changed, and keeps its serial and its parent
@@ -94,12 +94,12 @@ module _ (g : Node → Node) (serials : (n : Node) → g n .serial ≡ n .serial
 
   pub loose-map : (F : Family) → ordered serial-of 0 (F .next) (F .nodes) ≡ true → Loose F (family (map g (F .nodes)) (F .links) (F .next))
   loose-map F o = record {
-      order = ordered-map serial-of g serials 0 (F .next) (F .nodes) ∙ o;
-      same-next = refl;
-      old = λ t n′ l. record { was = unmap F t n′ l .0; lived = unmap F t n′ l .1; parents = ap (λ (n : Node). n .parent) (unmap F t n′ l .2) ∙ parents (unmap F t n′ l .0) };
-      fewer = λ p s h. h;
-      roots = λ b h. ap isSome (find-map serial-of g serials (b .parent) (F .nodes)) ∙ (isSome-mapped g (find serial-of (b .parent) (F .nodes)) ∙ h)
-    }
+    order = ordered-map serial-of g serials 0 (F .next) (F .nodes) ∙ o;
+    same-next = refl;
+    old = λ t n′ l. record { was = unmap F t n′ l .0; lived = unmap F t n′ l .1; parents = ap (λ (n : Node). n .parent) (unmap F t n′ l .2) ∙ parents (unmap F t n′ l .0) };
+    fewer = λ p s h. h;
+    roots = λ b h. ap isSome (find-map serial-of g serials (b .parent) (F .nodes)) ∙ (isSome-mapped g (find serial-of (b .parent) (F .nodes)) ∙ h);
+  }
 
   pub frame-map : (F : Family) → Frame F → Frame (family (map g (F .nodes)) (F .links) (F .next))
   frame-map F ok = frame-loose F (family (map g (F .nodes)) (F .links) (F .next)) (loose-map F (ok .order)) ok
@@ -108,34 +108,34 @@ module _ (g : Node → Node) (serials : (n : Node) → g n .serial ≡ n .serial
   pub solid-map : ((n : Node) → g n .aborted ≡ n .aborted) → (F : Family) → Solid F → Solid (family (map g (F .nodes)) (F .links) (F .next))
   unfolding loose-map
   solid-map flags F ok =
-    let w : Within F (family (map g (F .nodes)) (F .links) (F .next)) = record {
-          loose = loose-map F (ok .frame .order);
-          flags = λ t n′ l. ap (λ (n : Node). n .aborted) (unmap F t n′ l .2) ∙ flags (unmap F t n′ l .0);
-          enough = λ k h. h
-        } in
-    solid-within F (family (map g (F .nodes)) (F .links) (F .next)) w ok
+      let w : Within F (family (map g (F .nodes)) (F .links) (F .next)) = record {
+        loose = loose-map F (ok .frame .order);
+        flags = λ t n′ l. ap (λ (n : Node). n .aborted) (unmap F t n′ l .2) ∙ flags (unmap F t n′ l .0);
+        enough = λ k h. h;
+      } in
+      solid-within F (family (map g (F .nodes)) (F .links) (F .next)) w ok
 
 -- one node is changed
 module _ (f : Node → Node) (serials : (n : Node) → f n .serial ≡ n .serial) (parents : (n : Node) → f n .parent ≡ n .parent) where
   pub frame-changed : (s : ℕ) (F : Family) → Frame F → Frame (changed f s F)
   frame-changed s F ok =
-    subst (λ (l : List Node). Frame (family l (F .links) (F .next))) (sym (change-map serial-of f s (F .nodes)))
-    (frame-map (on serial-of s f) (on-same serial-of (λ (n : Node). n .serial) f serials s) (on-same serial-of (λ (n : Node). n .parent) f parents s) F ok)
+      subst (λ (l : List Node). Frame (family l (F .links) (F .next))) (sym (change-map serial-of f s (F .nodes)))
+      (frame-map (on serial-of s f) (on-same serial-of (λ (n : Node). n .serial) f serials s) (on-same serial-of (λ (n : Node). n .parent) f parents s) F ok)
 
   pub solid-changed : ((n : Node) → f n .aborted ≡ n .aborted) → (s : ℕ) (F : Family) → Solid F → Solid (changed f s F)
   solid-changed flags s F ok =
-    subst (λ (l : List Node). Solid (family l (F .links) (F .next))) (sym (change-map serial-of f s (F .nodes)))
-    (solid-map (on serial-of s f) (on-same serial-of (λ (n : Node). n .serial) f serials s) (on-same serial-of (λ (n : Node). n .parent) f parents s) (on-same serial-of (λ (n : Node). n .aborted) f flags s) F ok)
+      subst (λ (l : List Node). Solid (family l (F .links) (F .next))) (sym (change-map serial-of f s (F .nodes)))
+      (solid-map (on serial-of s f) (on-same serial-of (λ (n : Node). n .serial) f serials s) (on-same serial-of (λ (n : Node). n .parent) f parents s) (on-same serial-of (λ (n : Node). n .aborted) f flags s) F ok)
 
 -- links are dropped
 pub loose-dropped : (keep : Link → Bool) (F : Family) → ordered serial-of 0 (F .next) (F .nodes) ≡ true → Loose F (family (F .nodes) (kept-by keep (F .links)) (F .next))
 loose-dropped keep F o = record {
-      order = o;
-      same-next = refl;
-      old = λ t n′ l. record { was = n′; lived = l; parents = refl };
-      fewer = λ p s h. any-unkept (joins p s) keep (F .links) h;
-      roots = λ b h. h
-    }
+  order = o;
+  same-next = refl;
+  old = λ t n′ l. record { was = n′; lived = l; parents = refl };
+  fewer = λ p s h. any-unkept (joins p s) keep (F .links) h;
+  roots = λ b h. h;
+}
 
 -- but none that joins a living node to its living parent
 pub solid-dropped : (keep : Link → Bool) (F : Family) → ((k : Kin F) (l : Link) → joins (k .born .parent) (k .born .serial) l ≡ true → keep l ≡ true) → Solid F → Solid (family (F .nodes) (kept-by keep (F .links)) (F .next))
@@ -143,12 +143,12 @@ unfolding loose-dropped
 solid-dropped keep F keeps ok =
     let G : Family = family (F .nodes) (kept-by keep (F .links)) (F .next) in
     let w : Within F G = record {
-          loose = loose-dropped keep F (ok .frame .order);
-          flags = λ t n′ l. refl;
-          enough = λ k h.
-            let k′ : Kin F = record { born = record { serial = k .born .serial; node = k .born .node; parent = k .born .parent; lives = k .born .lives; under = k .born .under }; above = k .above; stands = k .stands } in
-            any-kept (joins (k .born .parent) (k .born .serial)) keep (F .links) h (keeps k′)
-        } in
+      loose = loose-dropped keep F (ok .frame .order);
+      flags = λ t n′ l. refl;
+      enough = λ k h.
+          let k′ : Kin F = record { born = record { serial = k .born .serial; node = k .born .node; parent = k .born .parent; lives = k .born .lives; under = k .born .under }; above = k .above; stands = k .stands } in
+          any-kept (joins (k .born .parent) (k .born .serial)) keep (F .links) h (keeps k′);
+    } in
     solid-within F G w ok
 
 pub joins-child : (p s : ℕ) (l : Link) → joins p s l ≡ true → l .child ≡ s

@@ -30,12 +30,12 @@ before s t xs n′ h =
     let u = unmapped (on serial-of s condemned) (find serial-of t xs) n′ (sym (find-change serial-of condemned (λ _. refl) s t xs) ∙ h) in
     let serial = find-key serial-of t xs (u .0) (u .1) in
     elim (cases-eq t s) [
-      inl e ↦
-        let a : n′ ≡ condemned (u .0) = u .2 ∙ rw (eq-eqb (serial-of (u .0)) s (serial ∙ e)) refl in
-        record { was = u .0; lived = u .1; parents = ap (λ (m : Node). m .parent) a; either = inl (e, ap (λ (m : Node). m .aborted) a) }
-    | inr e ↦
-        let a : n′ ≡ u .0 = u .2 ∙ rw (ne-eqb (serial-of (u .0)) s (λ z. e (sym serial ∙ z))) refl in
-        record { was = u .0; lived = u .1; parents = ap (λ (m : Node). m .parent) a; either = inr (e, a) }
+      | inl e ↦
+          let a : n′ ≡ condemned (u .0) = u .2 ∙ rw (eq-eqb (serial-of (u .0)) s (serial ∙ e)) refl in
+          record { was = u .0; lived = u .1; parents = ap (λ (m : Node). m .parent) a; either = inl (e, ap (λ (m : Node). m .aborted) a) }
+      | inr e ↦
+          let a : n′ ≡ u .0 = u .2 ∙ rw (ne-eqb (serial-of (u .0)) s (λ z. e (sym serial ∙ z))) refl in
+          record { was = u .0; lived = u .1; parents = ap (λ (m : Node). m .parent) a; either = inr (e, a) }
     ]
 
 -- what a link leads to is among the children of its parent
@@ -57,9 +57,9 @@ linked-child p s ls h =
 pub child-linked : (p s : ℕ) (ls : List Link) → In s (children p ls) → any (joins p s) ls ≡ true
 child-linked p s [] h = absurd h
 child-linked p s (l ∷ ls) h = elim (cases-bool (from p l)) [
-      inl e ↦ elim (subst (λ b. In s (cond b (l .child ∷ children p ls) (children p ls))) e h) [
-          inl c ↦ or-left (joins p s l) (any (joins p s) ls) (and-from (from p l) (eqb (l .child) s) e (eq-eqb (l .child) s (sym c)))
-        | inr r ↦ or-right (joins p s l) (any (joins p s) ls) (child-linked p s ls r)
-        ]
-    | inr e ↦ or-right (joins p s l) (any (joins p s) ls) (child-linked p s ls (subst (λ b. In s (cond b (l .child ∷ children p ls) (children p ls))) e h))
-    ]
+  | inl e ↦ elim (subst (λ b. In s (cond b (l .child ∷ children p ls) (children p ls))) e h) [
+    | inl c ↦ or-left (joins p s l) (any (joins p s) ls) (and-from (from p l) (eqb (l .child) s) e (eq-eqb (l .child) s (sym c)))
+    | inr r ↦ or-right (joins p s l) (any (joins p s) ls) (child-linked p s ls r)
+  ]
+  | inr e ↦ or-right (joins p s l) (any (joins p s) ls) (child-linked p s ls (subst (λ b. In s (cond b (l .child ∷ children p ls) (children p ls))) e h))
+]

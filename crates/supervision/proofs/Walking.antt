@@ -63,15 +63,15 @@ pub record Walking (F₀ : Family) (top : ℕ) (F : Family) (st : List ℕ) : Ty
 -- of what waits, the first is passed over: it is dead or aborted
 passes : (F₀ : Family) (top : ℕ) (F : Family) (s₀ : ℕ) (st : List ℕ) → ((n : Node) → Lives F s₀ n → n .aborted ≡ true) → Walking F₀ top F (s₀ ∷ st) → Walking F₀ top F st
 passes F₀ top F s₀ st over w = record {
-      frame = w .frame;
-      kept = w .kept;
-      linked = w .linked;
-      covered = λ k a. elim (w .covered k a) [ inl x ↦ inl x | inr i ↦ elim i [ inl e ↦ inl (over (k .born .node) (subst (λ z. Lives F z (k .born .node)) e (k .born .lives))) | inr r ↦ inr r ] ];
-      tops = λ n l. elim (w .tops n l) [ inl x ↦ inl x | inr i ↦ elim i [ inl e ↦ inl (over n (subst (λ z. Lives F z n) e l)) | inr r ↦ inr r ] ];
-      goes = w .goes;
-      came = w .came;
-      waits = λ t n i l. w .waits t n (inr i) l
-    }
+  frame = w .frame;
+  kept = w .kept;
+  linked = w .linked;
+  covered = λ k a. elim (w .covered k a) [ inl x ↦ inl x | inr i ↦ elim i [ inl e ↦ inl (over (k .born .node) (subst (λ z. Lives F z (k .born .node)) e (k .born .lives))) | inr r ↦ inr r ] ];
+  tops = λ n l. elim (w .tops n l) [ inl x ↦ inl x | inr i ↦ elim i [ inl e ↦ inl (over n (subst (λ z. Lives F z n) e l)) | inr r ↦ inr r ] ];
+  goes = w .goes;
+  came = w .came;
+  waits = λ t n i l. w .waits t n (inr i) l;
+}
 
 -- the tree after the node s₀ is struck
 abbrev after-hit : Family → ℕ → Family
@@ -91,100 +91,100 @@ module _ (F₀ : Family) (top : ℕ) (F : Family) (s₀ : ℕ) (st : List ℕ) (
   -- a child and its parent, as they were
   kin-was : Kin (after-hit F s₀) → Kin F
   kin-was k = record {
-      born = record { serial = k .born .serial; node = back (k .born .serial) (k .born .node) (k .born .lives) .was; parent = k .born .parent; lives = back (k .born .serial) (k .born .node) (k .born .lives) .lived; under = ap (holds (k .born .parent)) (sym (back (k .born .serial) (k .born .node) (k .born .lives) .parents)) ∙ k .born .under };
-      above = back (k .born .parent) (k .above) (k .stands) .was;
-      stands = back (k .born .parent) (k .above) (k .stands) .lived
-    }
+    born = record { serial = k .born .serial; node = back (k .born .serial) (k .born .node) (k .born .lives) .was; parent = k .born .parent; lives = back (k .born .serial) (k .born .node) (k .born .lives) .lived; under = ap (holds (k .born .parent)) (sym (back (k .born .serial) (k .born .node) (k .born .lives) .parents)) ∙ k .born .under };
+    above = back (k .born .parent) (k .above) (k .stands) .was;
+    stands = back (k .born .parent) (k .above) (k .stands) .lived;
+  }
 
   hit-covered : (k : Kin (after-hit F s₀)) → k .above .aborted ≡ true → (k .born .node .aborted ≡ true) ⊎ In (k .born .serial) (stack F s₀ st)
   unfolding kin-was
   hit-covered k a =
-    let bn = back (k .born .serial) (k .born .node) (k .born .lives) in
-    let bm = back (k .born .parent) (k .above) (k .stands) in
-    elim (bn .either) [
-      inl h ↦ inl (h .1)
-    | inr same ↦ elim (bm .either) [
-          inl h ↦
-            let is : bm .was ≡ n₀ = same-some (subst (λ z. Lives F z (bm .was)) (h .0) (bm .lived)) found in
-            let q : bm .was .aborted ≡ false = ap (λ (x : Node). x .aborted) is ∙ quiet in
-            let leads : has-link s₀ (k .born .serial) F ≡ true = subst (λ z. has-link z (k .born .serial) F ≡ true) (h .0) (w .linked (kin-was k) q) in
-            inr (in-left (k .born .serial) (reverse (children s₀ (F .links))) st (in-reverse (k .born .serial) (children s₀ (F .links)) (linked-child s₀ (k .born .serial) (F .links) leads)))
-        | inr h ↦ elim (w .covered (kin-was k) (ap (λ (x : Node). x .aborted) (sym (h .1)) ∙ a)) [
-              inl x ↦ inl (ap (λ (y : Node). y .aborted) (same .1) ∙ x)
+      let bn = back (k .born .serial) (k .born .node) (k .born .lives) in
+      let bm = back (k .born .parent) (k .above) (k .stands) in
+      elim (bn .either) [
+        | inl h ↦ inl (h .1)
+        | inr same ↦ elim (bm .either) [
+          | inl h ↦
+              let is : bm .was ≡ n₀ = same-some (subst (λ z. Lives F z (bm .was)) (h .0) (bm .lived)) found in
+              let q : bm .was .aborted ≡ false = ap (λ (x : Node). x .aborted) is ∙ quiet in
+              let leads : has-link s₀ (k .born .serial) F ≡ true = subst (λ z. has-link z (k .born .serial) F ≡ true) (h .0) (w .linked (kin-was k) q) in
+              inr (in-left (k .born .serial) (reverse (children s₀ (F .links))) st (in-reverse (k .born .serial) (children s₀ (F .links)) (linked-child s₀ (k .born .serial) (F .links) leads)))
+          | inr h ↦ elim (w .covered (kin-was k) (ap (λ (x : Node). x .aborted) (sym (h .1)) ∙ a)) [
+            | inl x ↦ inl (ap (λ (y : Node). y .aborted) (same .1) ∙ x)
             | inr i ↦ elim i [ inl e ↦ absurd (same .0 e) | inr r ↦ inr (in-right (k .born .serial) (reverse (children s₀ (F .links))) st r) ]
-            ]
+          ]
         ]
-    ]
+      ]
 
   hit-tops : (n : Node) → Lives (after-hit F s₀) top n → (n .aborted ≡ true) ⊎ In top (stack F s₀ st)
   hit-tops n l =
-    let bn = back top n l in
-    elim (bn .either) [
-      inl h ↦ inl (h .1)
-    | inr same ↦ elim (w .tops (bn .was) (bn .lived)) [
-          inl x ↦ inl (ap (λ (y : Node). y .aborted) (same .1) ∙ x)
-        | inr i ↦ elim i [ inl e ↦ absurd (same .0 e) | inr r ↦ inr (in-right top (reverse (children s₀ (F .links))) st r) ]
+      let bn = back top n l in
+      elim (bn .either) [
+        | inl h ↦ inl (h .1)
+        | inr same ↦ elim (w .tops (bn .was) (bn .lived)) [
+          | inl x ↦ inl (ap (λ (y : Node). y .aborted) (same .1) ∙ x)
+          | inr i ↦ elim i [ inl e ↦ absurd (same .0 e) | inr r ↦ inr (in-right top (reverse (children s₀ (F .links))) st r) ]
         ]
-    ]
+      ]
 
   hit-linked : Linked (after-hit F s₀)
   unfolding kin-was
   hit-linked k a =
-    let bm = back (k .born .parent) (k .above) (k .stands) in
-    elim (bm .either) [
-      inl h ↦ absurd (both-ways (k .above .aborted) a (h .1))
-    | inr sm ↦ any-kept (joins (k .born .parent) (k .born .serial)) (elsewhere s₀) (F .links) (w .linked (kin-was k) (ap (λ (x : Node). x .aborted) (sym (sm .1)) ∙ a)) (λ l j. ap not (ne-eqb (l .parent) s₀ (λ e. sm .0 (sym (joins-parent (k .born .parent) (k .born .serial) l j) ∙ e))))
-    ]
+      let bm = back (k .born .parent) (k .above) (k .stands) in
+      elim (bm .either) [
+        | inl h ↦ absurd (both-ways (k .above .aborted) a (h .1))
+        | inr sm ↦ any-kept (joins (k .born .parent) (k .born .serial)) (elsewhere s₀) (F .links) (w .linked (kin-was k) (ap (λ (x : Node). x .aborted) (sym (sm .1)) ∙ a)) (λ l j. ap not (ne-eqb (l .parent) s₀ (λ e. sm .0 (sym (joins-parent (k .born .parent) (k .born .serial) l j) ∙ e))))
+      ]
 
   hit-goes : (t : ℕ) (n : Node) → Lives F₀ t n → Goes (after-hit F s₀) t n
   hit-goes t n l =
-    let g = w .goes t n l in
-    record {
-      is = on serial-of s₀ condemned (g .is);
-      lives = find-change-some serial-of condemned (λ _. refl) s₀ t (F .nodes) (g .is) (g .lives);
-      stays = λ a. elim (eqb (serial-of (g .is)) s₀) as (λ b. cond b (condemned (g .is)) (g .is) .aborted ≡ true) [ true ↦ refl | false ↦ g .stays a ]
-    }
+      let g = w .goes t n l in
+      record {
+        is = on serial-of s₀ condemned (g .is);
+        lives = find-change-some serial-of condemned (λ _. refl) s₀ t (F .nodes) (g .is) (g .lives);
+        stays = λ a. elim (eqb (serial-of (g .is)) s₀) as (λ b. cond b (condemned (g .is)) (g .is) .aborted ≡ true) [ true ↦ refl | false ↦ g .stays a ];
+      }
 
   hit-came : (t : ℕ) (n′ : Node) → Lives (after-hit F s₀) t n′ → Came F₀ top t n′
   hit-came t n′ l =
-    let bn = back t n′ l in
-    let g = w .came t (bn .was) (bn .lived) in
-    record {
-      was = g .was;
-      lived = g .lived;
-      parents = bn .parents ∙ g .parents;
-      aborts = λ a. elim (bn .either) [
-          inl h ↦ inr (subst (Under F₀ top) (sym (h .0)) here)
-        | inr same ↦ g .aborts (ap (λ (x : Node). x .aborted) (sym (same .1)) ∙ a)
-        ]
-    }
+      let bn = back t n′ l in
+      let g = w .came t (bn .was) (bn .lived) in
+      record {
+        was = g .was;
+        lived = g .lived;
+        parents = bn .parents ∙ g .parents;
+        aborts = λ a. elim (bn .either) [
+          | inl h ↦ inr (subst (Under F₀ top) (sym (h .0)) here)
+          | inr same ↦ g .aborts (ap (λ (x : Node). x .aborted) (sym (same .1)) ∙ a)
+        ];
+      }
 
   hit-waits : (t : ℕ) (n : Node) → In t (stack F s₀ st) → Lives (after-hit F s₀) t n → Under F₀ top t
   hit-waits t n i l =
-    let bn = back t n l in
-    elim (in-parts t (reverse (children s₀ (F .links))) st i) [
-      inl c ↦
-        let leads = child-linked s₀ t (F .links) (in-unreverse t (children s₀ (F .links)) c) in
-        let up = w .frame .honest (record { parent = s₀; serial = t; node = bn .was; links = leads; lives = bn .lived }) in
-        let g = w .came t (bn .was) (bn .lived) in
-        let h = w .came s₀ n₀ found in
-        below (record { born = record { serial = t; node = g .was; parent = s₀; lives = g .lived; under = ap (holds s₀) (sym (g .parents)) ∙ up }; above = h .was; stands = h .lived }) here
-    | inr r ↦ w .waits t (bn .was) (inr r) (bn .lived)
-    ]
+      let bn = back t n l in
+      elim (in-parts t (reverse (children s₀ (F .links))) st i) [
+        | inl c ↦
+            let leads = child-linked s₀ t (F .links) (in-unreverse t (children s₀ (F .links)) c) in
+            let up = w .frame .honest (record { parent = s₀; serial = t; node = bn .was; links = leads; lives = bn .lived }) in
+            let g = w .came t (bn .was) (bn .lived) in
+            let h = w .came s₀ n₀ found in
+            below (record { born = record { serial = t; node = g .was; parent = s₀; lives = g .lived; under = ap (holds s₀) (sym (g .parents)) ∙ up }; above = h .was; stands = h .lived }) here
+        | inr r ↦ w .waits t (bn .was) (inr r) (bn .lived)
+      ]
 
   pub hits : Walking F₀ top (after-hit F s₀) (reverse (children s₀ (F .links)) ++ st)
   hits =
-    let changes : Frame (changed condemned s₀ F) = frame-changed condemned (λ _. refl) (λ _. refl) s₀ F (w .frame) in
-    record {
-      frame = frame-loose (changed condemned s₀ F) (after-hit F s₀) (loose-dropped (elsewhere s₀) (changed condemned s₀ F) (changes .order)) changes;
-      kept = kept-change condemned (λ _. refl) (λ _. refl) (λ _ h. h) s₀ (F .nodes) (w .kept);
-      linked = hit-linked;
-      covered = hit-covered;
-      tops = hit-tops;
-      goes = hit-goes;
-      came = hit-came;
-      waits = hit-waits
-    }
+      let changes : Frame (changed condemned s₀ F) = frame-changed condemned (λ _. refl) (λ _. refl) s₀ F (w .frame) in
+      record {
+        frame = frame-loose (changed condemned s₀ F) (after-hit F s₀) (loose-dropped (elsewhere s₀) (changed condemned s₀ F) (changes .order)) changes;
+        kept = kept-change condemned (λ _. refl) (λ _. refl) (λ _ h. h) s₀ (F .nodes) (w .kept);
+        linked = hit-linked;
+        covered = hit-covered;
+        tops = hit-tops;
+        goes = hit-goes;
+        came = hit-came;
+        waits = hit-waits;
+      }
 
 step-walking-at : (F₀ : Family) (top : ℕ) (F : Family) (s₀ : ℕ) (st : List ℕ) (o : Option Node) → node-at s₀ F ≡ o → Walking F₀ top F (s₀ ∷ st) → Walking F₀ top (step-at s₀ o F .after) (reverse (step-at s₀ o F .below) ++ st)
 step-walking-at F₀ top F s₀ st None e w = passes F₀ top F s₀ st (λ n l. absurd (some-not-none e l)) w
@@ -211,15 +211,15 @@ walk-walking F₀ top (suc k) (s ∷ st) F e w =
 
 start : (F : Family) (top : ℕ) → Whole F → Walking F top F (top ∷ [])
 start F top ok = record {
-      frame = ok .solid .frame;
-      kept = ok .kept;
-      linked = ok .solid .linked;
-      covered = λ k a. inl (ok .solid .shielded k a);
-      tops = λ n l. inr (inl refl);
-      goes = λ t n l. record { is = n; lives = l; stays = λ a. a };
-      came = λ t n l. record { was = n; lived = l; parents = refl; aborts = λ a. inl a };
-      waits = λ t n i l. elim i [ inl e ↦ subst (Under F top) (sym e) (itself (subst (λ z. Lives F z n) e l)) | inr z ↦ absurd z ]
-    }
+  frame = ok .solid .frame;
+  kept = ok .kept;
+  linked = ok .solid .linked;
+  covered = λ k a. inl (ok .solid .shielded k a);
+  tops = λ n l. inr (inl refl);
+  goes = λ t n l. record { is = n; lives = l; stays = λ a. a };
+  came = λ t n l. record { was = n; lived = l; parents = refl; aborts = λ a. inl a };
+  waits = λ t n i l. elim i [ inl e ↦ subst (Under F top) (sym e) (itself (subst (λ z. Lives F z n) e l)) | inr z ↦ absurd z ];
+}
 
 pub walked : (top : ℕ) (F : Family) → Whole F → Walking F top (cascaded top F .0) []
 walked top F ok = walk-walking F top (1 + length (F .links)) (top ∷ []) F (omega arith) (start F top ok)
@@ -234,8 +234,8 @@ module _ (F G : Family) (top : ℕ) (w : Walking F top G []) where
   pub under-aborted : {t : ℕ} → Under F top t → (n : Node) → Lives G t n → n .aborted ≡ true
   under-aborted (itself l) n g = elim (w .tops n g) [ inl x ↦ x | inr z ↦ absurd z ]
   under-aborted (below k u) n g =
-    let up = w .goes (k .born .parent) (k .above) (k .stands) in
-    let above = under-aborted u (up .is) (up .lives) in
-    let was = w .came (k .born .serial) n g in
-    let is : was .was ≡ k .born .node = same-some (was .lived) (k .born .lives) in
-    shields (record { born = record { serial = k .born .serial; node = n; parent = k .born .parent; lives = g; under = ap (holds (k .born .parent)) (was .parents ∙ ap (λ (x : Node). x .parent) is) ∙ k .born .under }; above = up .is; stands = up .lives }) above
+      let up = w .goes (k .born .parent) (k .above) (k .stands) in
+      let above = under-aborted u (up .is) (up .lives) in
+      let was = w .came (k .born .serial) n g in
+      let is : was .was ≡ k .born .node = same-some (was .lived) (k .born .lives) in
+      shields (record { born = record { serial = k .born .serial; node = n; parent = k .born .parent; lives = g; under = ap (holds (k .born .parent)) (was .parents ∙ ap (λ (x : Node). x .parent) is) ∙ k .born .under }; above = up .is; stands = up .lives }) above

@@ -41,13 +41,13 @@ facts-of G F e w = subst Facts (sym e) (facts F w)
 
 pub whole-empty : Whole (family [] [] 0)
 whole-empty = record {
-      solid = record {
-        frame = record { order = refl; rooted = λ b. absurd (some-not-none refl (b .lives)); honest = λ l. absurd (some-not-none refl (l .lives)); past = λ l. absurd (false≢true (l .links)) };
-        shielded = λ k a. absurd (some-not-none refl (k .stands));
-        linked = λ k a. absurd (some-not-none refl (k .stands))
-      };
-      kept = refl
-    }
+  solid = record {
+    frame = record { order = refl; rooted = λ b. absurd (some-not-none refl (b .lives)); honest = λ l. absurd (some-not-none refl (l .lives)); past = λ l. absurd (false≢true (l .links)) };
+    shielded = λ k a. absurd (some-not-none refl (k .stands));
+    linked = λ k a. absurd (some-not-none refl (k .stands));
+  };
+  kept = refl;
+}
 
 pub whole-alone : (aborted : Bool) (owner : ℕ) (F : Family) → Whole F → Whole (grown None aborted owner F)
 whole-alone aborted owner F w = record { solid = solid-alone aborted owner F (w .solid); kept = kept-grown (F .next) None aborted owner (F .nodes) (w .kept) }
@@ -60,16 +60,16 @@ kept-tidied p F all = tidied-by Kept p F all (kept-change (with-stale 0) (λ _. 
 
 pub whole-born : (p owner : ℕ) (F : Family) (m : Node) → Lives F p m → m .aborted ≡ false → Whole F → Whole (born p owner F)
 whole-born p owner F m up quiet w = record {
-      solid = solid-born p owner F m (w .solid) up quiet;
-      kept = kept-grown (tidied p F .next) (Some p) false owner (tidied p F .nodes) (kept-tidied p F (w .kept))
-    }
+  solid = solid-born p owner F m (w .solid) up quiet;
+  kept = kept-grown (tidied p F .next) (Some p) false owner (tidied p F .nodes) (kept-tidied p F (w .kept));
+}
 
 pub whole-seated : (s task : ℕ) (F : Family) (m : Node) → Lives F s m → m .aborted ≡ false → Whole F → Whole (seated s task F)
 whole-seated s task F m up quiet w =
     let b = whole-born s task F m up quiet w in
     record {
       solid = solid-changed (taken task) (λ _. refl) (λ _. refl) (λ _. refl) s (born s task F) (b .solid);
-      kept = kept-change (taken task) (λ _. refl) (λ _. refl) (λ _ _. refl) s (born s task F .nodes) (b .kept)
+      kept = kept-change (taken task) (λ _. refl) (λ _. refl) (λ _ _. refl) s (born s task F .nodes) (b .kept);
     }
 
 whole-settled : (F : Family) → Solid F → Whole (settled F)
@@ -87,19 +87,19 @@ pub whole-closed-all : (task : ℕ) (F : Family) → Whole F → Whole (closed-a
 whole-closed-all task F w =
     whole-settled (family (map (released task) (F .nodes)) (F .links) (F .next))
     (solid-map (released task)
-      (λ n. by-test (λ (m : Node). m .serial) (holds task (n .owner)) (with-owner None n) n refl)
-      (λ n. by-test (λ (m : Node). m .parent) (holds task (n .owner)) (with-owner None n) n refl)
-      (λ n. by-test (λ (m : Node). m .aborted) (holds task (n .owner)) (with-owner None n) n refl)
-      F (w .solid))
+    (λ n. by-test (λ (m : Node). m .serial) (holds task (n .owner)) (with-owner None n) n refl)
+    (λ n. by-test (λ (m : Node). m .parent) (holds task (n .owner)) (with-owner None n) n refl)
+    (λ n. by-test (λ (m : Node). m .aborted) (holds task (n .owner)) (with-owner None n) n refl)
+    F (w .solid))
 
 pub whole-left : (task : ℕ) (F : Family) → Whole F → Whole (left task F)
 whole-left task F w =
     whole-settled (family (map (vacated task) (F .nodes)) (F .links) (F .next))
     (solid-map (vacated task)
-      (λ n. by-test (λ (m : Node). m .serial) (holds task (n .task)) (with-task None n) n refl)
-      (λ n. by-test (λ (m : Node). m .parent) (holds task (n .task)) (with-task None n) n refl)
-      (λ n. by-test (λ (m : Node). m .aborted) (holds task (n .task)) (with-task None n) n refl)
-      F (w .solid))
+    (λ n. by-test (λ (m : Node). m .serial) (holds task (n .task)) (with-task None n) n refl)
+    (λ n. by-test (λ (m : Node). m .parent) (holds task (n .task)) (with-task None n) n refl)
+    (λ n. by-test (λ (m : Node). m .aborted) (holds task (n .task)) (with-task None n) n refl)
+    F (w .solid))
 
 -- a context that is open is that of a living node
 open-lives-at : (task : ℕ) (o : Option Node) → given o false (λ n. holds task (n .owner)) ≡ true → (n : Node) × (o ≡ Some n)
@@ -116,13 +116,13 @@ flag-at s F n b l h = sym (ap (λ (o : Option Node). given o false (λ m. m .abo
 -- what is not refused is open
 pub not-refused : (task s : ℕ) (F : Family) → child-refusal task s F ≡ None → open-for task s F ≡ true
 not-refused task s F h = elim (cases-bool (open-for task s F)) [
-      inl e ↦ e
-    | inr e ↦ (let g : Some NotOpen ≡ None = rw e at h in absurd (some-not-none g refl))
-    ]
+  | inl e ↦ e
+  | inr e ↦ (let g : Some NotOpen ≡ None = rw e at h in absurd (some-not-none g refl))
+]
 
 -- what holds of every tree
 pub whole-of : (t : Tree) → Whole (view t)
 whole-of t = record {
-      solid = record { frame = record { order = t .nodes .order; rooted = t .rooted; honest = t .honest; past = t .past }; shielded = t .shielded; linked = t .linked };
-      kept = t .kept
-    }
+  solid = record { frame = record { order = t .nodes .order; rooted = t .rooted; honest = t .honest; past = t .past }; shielded = t .shielded; linked = t .linked };
+  kept = t .kept;
+}

@@ -38,7 +38,12 @@ fn links_of_top(tree: &Tree) -> Result<usize, &'static str> {
 // A new task at a context under the top; gives the context that the task holds.
 fn spawn_below_top(tree: &mut Tree, task: u64) -> Result<u64, &'static str> {
     let (context, _) = child_of_top(tree)?;
-    if tree.next_serial() < MANY && tree.is_open(0, context) && !tree.is_aborted(context) && tree.has_node() && tree.has_link(context) {
+    if tree.next_serial() < MANY
+        && tree.is_open(0, context)
+        && !tree.is_aborted(context)
+        && tree.has_node()
+        && tree.has_link(context)
+    {
         Ok(tree.seat(0, context, task))
     } else {
         Err("refused")

@@ -12,9 +12,9 @@ ghost-self c = facts-of (family-of (c .abort .last .nodes) (c .abort .last .link
 
 pub returns : need.returns
 returns c = record {
-      state = c .abort .ensures .after;
-      marks = c .abort .ensures .marks;
-      law = cascade-law-of (c .args .node) (view (c .args .self .now)) _ _ (c .abort .ensures .after) (c .abort .ensures .marks) (whole-of (c .args .self .now));
-      serials = subst (Aged (view (c .args .self .now))) (sym (c .abort .ensures .after)) (aged-cascaded (c .args .node) (view (c .args .self .now)));
-      next = ap (λ (f : Family). f .next) (c .abort .ensures .after) ∙ next-cascaded (c .args .node) (view (c .args .self .now))
-    }
+  state = c .abort .ensures .after;
+  marks = c .abort .ensures .marks;
+  law = cascade-law-of (c .args .node) (view (c .args .self .now)) _ _ (c .abort .ensures .after) (c .abort .ensures .marks) (whole-of (c .args .self .now));
+  serials = subst (Aged (view (c .args .self .now))) (sym (c .abort .ensures .after)) (aged-cascaded (c .args .node) (view (c .args .self .now)));
+  next = ap (λ (f : Family). f .next) (c .abort .ensures .after) ∙ next-cascaded (c .args .node) (view (c .args .self .now));
+}

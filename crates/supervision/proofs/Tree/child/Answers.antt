@@ -15,11 +15,11 @@ ghost-self c = facts-of (family-of (c .add-serial .last .self) (c .args .self .n
 
 pub returns-then-is-aborted : need.returns-then-is-aborted
 returns-then-is-aborted c = record {
-      answer = search needs;
-      state = search needs;
-      serials = subst (Aged (view (c .args .self .now))) (sym (same-family (c .add-serial .ensures .nodes) refl (c .add-serial .ensures .next))) (aged-stillborn (c .args .task) (view (c .args .self .now)));
-      next = omega (arith, c .add-serial .ensures .next)
-    }
+  answer = search needs;
+  state = search needs;
+  serials = subst (Aged (view (c .args .self .now))) (sym (same-family (c .add-serial .ensures .nodes) refl (c .add-serial .ensures .next))) (aged-stillborn (c .args .task) (view (c .args .self .now)));
+  next = omega (arith, c .add-serial .ensures .next);
+}
 
 pub ghost-self-2 : need.ghost-self-2
 ghost-self-2 c =
@@ -29,10 +29,10 @@ ghost-self-2 c =
 
 pub returns : need.returns
 returns c = record {
-      answer = search needs;
-      state = search needs;
-      serials = subst (Aged (view (c .args .self .now))) (sym (c .bear-serial .ensures .after)) (aged-born (c .args .context) (c .args .task) (view (c .args .self .now)));
-      next =
-        let is = ap (λ (f : Family). f .next) (c .bear-serial .ensures .after) ∙ next-born (c .args .context) (c .args .task) (view (c .args .self .now)) in
-        omega (arith, is)
-    }
+  answer = search needs;
+  state = search needs;
+  serials = subst (Aged (view (c .args .self .now))) (sym (c .bear-serial .ensures .after)) (aged-born (c .args .context) (c .args .task) (view (c .args .self .now)));
+  next =
+      let is = ap (λ (f : Family). f .next) (c .bear-serial .ensures .after) ∙ next-born (c .args .context) (c .args .task) (view (c .args .self .now)) in
+      omega (arith, is);
+}
