@@ -19,7 +19,7 @@ use Rattle.keyed.proofs.Maps.{find-map}
 use Rattle.nodes.specs.declared.Node.{Node}
 use Rattle.nodes.specs.Node.{serial-of, fresh, with-owner, with-task, with-stale, bereaved, released, vacated, taken}
 use Rattle.lineage.specs.Family.{Family, family, node-at, changed, aborted-at}
-use Rattle.lineage.specs.Births.{swept, tidied, grown, stillborn, joined, born}
+use Rattle.lineage.specs.Births.{swept, tidied, grown, orphaned, joined, born}
 use Rattle.lineage.specs.Deaths.{mourned, buried, doomed, one-dies, repeated, settled}
 use Rattle.lineage.specs.Cascade.{Step, condemned, passed, struck, step-at, step, walk, cascaded}
 use Rattle.lineage.proofs.Newborn.{tidied-tells}
@@ -102,8 +102,8 @@ aged-left task F =
 aged-alone : (parent : Option ℕ) (aborted : Bool) (owner : ℕ) (F G : Family) → G .nodes ≡ F .nodes ++ fresh (F .next) parent aborted owner ∷ [] → G .next ≡ F .next + 1 → Aged F G
 aged-alone parent aborted owner F G is next = by-nodes F (F .nodes ++ fresh (F .next) parent aborted owner ∷ []) (F .next + 1) (omega arith) (λ t l h. none-push (F .next) t (F .nodes) (fresh (F .next) parent aborted owner) refl l h) G is next
 
-pub aged-stillborn : (owner : ℕ) (F : Family) → Aged F (stillborn owner F)
-aged-stillborn owner F = aged-alone None true owner F (stillborn owner F) refl refl
+pub aged-orphaned : (owner : ℕ) (F : Family) → Aged F (orphaned owner F)
+aged-orphaned owner F = aged-alone None true owner F (orphaned owner F) refl refl
 
 pub aged-born : (p owner : ℕ) (F : Family) → Aged F (born p owner F)
 aged-born p owner F =
@@ -120,7 +120,7 @@ aged-whether (Some e) F G H a b = b
 pub aged-child : (task s : ℕ) (F : Family) → Aged F (after-child task s F)
 aged-child task s F =
     aged-whether (child-refusal task s F) F (with-child task s F) F
-    (cond-both (aborted-at s F) (stillborn task F) (born s task F) (Aged F) (λ _. aged-stillborn task F) (λ _. aged-born s task F))
+    (cond-both (aborted-at s F) (orphaned task F) (born s task F) (Aged F) (λ _. aged-orphaned task F) (λ _. aged-born s task F))
     (aged-same F)
 
 pub aged-close : (task s : ℕ) (F : Family) → Aged F (after-close task s F)

@@ -7,13 +7,13 @@ use Prim.Native.Nat.{ℕ, zero, suc, _+_}
 use native.Mathlib.Omega.{arith}
 use lib.Dec.{eqb}
 use lib.ListN.{length}
-use Rattle.std.proofs.shelf.Tests.{cond-both, both-ways, ne-eqb, cases-bool}
+use Rattle.std.proofs.shelf.Tests.{cond-both, both-ways, ne-eqb, false≢true}
 use Rattle.std.proofs.shelf.Lists.{nil-from-length, length-append, length-reverse}
 use Rattle.std.specs.shelf.Lists.{kept-by}
 use Rattle.std.specs.declared.option.Option.{Option}
 use Rattle.std.specs.declared.option.Option.the-variants.{Some, None}
 use Rattle.keyed.specs.Keyed.{change}
-use Rattle.keyed.specs.Choices.{holds}
+use Rattle.keyed.specs.Choices.{given, holds}
 use Rattle.keyed.specs.Members.{In}
 use Rattle.keyed.proofs.Finds.{on, same-some, some-not-none, find-change-some}
 use Rattle.keyed.proofs.Members.{in-left, in-right, in-parts, in-reverse, in-unreverse}
@@ -22,12 +22,11 @@ use Rattle.nodes.specs.declared.Node.{Node}
 use Rattle.nodes.specs.Node.{serial-of, child-of}
 use Rattle.links.specs.declared.Link.{Link}
 use Rattle.links.specs.Link.{joins, elsewhere, children}
-use Rattle.lineage.specs.Family.{Family, family, node-at, changed}
+use Rattle.lineage.specs.Family.{Family, family, node-at, changed, aborted-at}
 use Rattle.lineage.specs.Cascade.{Step, condemned, passed, struck, step-at, step, walk, cascaded}
 use Rattle.lineage.proofs.Visits.{step-leaves}
-use Rattle.keyed.proofs.Answers.{holds-is}
 use Rattle.supervision.specs.Sound.{Lives, has-link, Born, Kin, Led, Shielded, Linked, Kept}
-use Rattle.supervision.specs.Laws.{Under, itself, below}
+use Rattle.supervision.specs.Laws.{Under, itself, below, All-aborted}
 use Rattle.supervision.proofs.Solid.{Frame, Solid, frame-changed, frame-loose, loose-dropped, joins-parent}
 use Rattle.supervision.proofs.Keeping.{kept-change}
 use Rattle.supervision.proofs.Whole.{Whole}
@@ -239,3 +238,19 @@ module _ (F G : Family) (top : ℕ) (w : Walking F top G []) where
       let was = w .came (k .born .serial) n g in
       let is : was .was ≡ k .born .node = same-some (was .lived) (k .born .lives) in
       shields (record { born = record { serial = k .born .serial; node = n; parent = k .born .parent; lives = g; under = ap (holds (k .born .parent)) (was .parents ∙ ap (λ (x : Node). x .parent) is) ∙ k .born .under }; above = up .is; stands = up .lives }) above
+
+-- an aborted node shields nothing under it
+pub aborted-below : (F : Family) → Shielded F → (s : ℕ) (m : Node) → Lives F s m → m .aborted ≡ true → {t : ℕ} → Under F s t → (n : Node) → Lives F t n → n .aborted ≡ true
+aborted-below F ok s m l a (itself k) n g = ap (λ (x : Node). x .aborted) (same-some g l) ∙ a
+aborted-below F ok s m l a (below k u) n g =
+    let above = aborted-below F ok s m l a u (k .above) (k .stands) in
+    ap (λ (x : Node). x .aborted) (same-some g (k .born .lives)) ∙ ok k above
+
+aborted-lives-at : (o : Option Node) → given o false (λ n. n .aborted) ≡ true → (n : Node) × (o ≡ Some n) × (n .aborted ≡ true)
+aborted-lives-at None h = absurd (false≢true h)
+aborted-lives-at (Some n) h = (n, refl, h)
+
+pub all-aborted : (s : ℕ) (F : Family) → Whole F → aborted-at s F ≡ true → All-aborted s F
+all-aborted s F ok h =
+    let top = aborted-lives-at (node-at s F) h in
+    λ t n u l. aborted-below F (ok .solid .shielded) s (top .0) (top .1) (top .2) u n l

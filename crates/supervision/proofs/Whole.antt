@@ -12,7 +12,7 @@ use Rattle.keyed.proofs.Finds.{some-not-none}
 use Rattle.nodes.specs.declared.Node.{Node}
 use Rattle.nodes.specs.Node.{with-owner, with-task, with-stale, released, vacated, taken}
 use Rattle.lineage.specs.Family.{Family, family, node-at, changed, open-for, aborted-at}
-use Rattle.lineage.specs.Births.{swept, tidied, grown, stillborn, joined, born}
+use Rattle.lineage.specs.Births.{swept, tidied, grown, orphaned, joined, born}
 use Rattle.lineage.specs.Deaths.{settled}
 use Rattle.supervision.specs.declared.Tree.{Tree}
 use Rattle.supervision.specs.Sound.{Lives, Rooted, Shielded, Linked, Honest, Past, Kept}

@@ -16,6 +16,10 @@ pub data Under (F : Family) (top : ℕ) : ℕ → Type 0 where
   itself : {n : Node} → Lives F top n → Under F top top
   below : (k : Kin F) → Under F top (k .born .parent) → Under F top (k .born .serial)
 
+-- every living node at s or under it is aborted
+abbrev pub All-aborted : ℕ → Family → Type 0
+All-aborted s F = (t : ℕ) (n : Node) → Under F s t → Lives F t n → n .aborted ≡ true
+
 -- how many aborted nodes the task is seated at
 abbrev pub struck-with : ℕ → List Node → ℕ
 struck-with task [] = 0
