@@ -14,12 +14,12 @@ use Rattle.std.specs.shelf.Text.{sameBytes}
 use Rattle.tokens.specs.Numbers.{isEmpty}
 use Rattle.script.specs.declared.fault.Fault.{Fault}
 use Rattle.script.specs.declared.fault.Reason.the-variants.{TooLong, NoForm, TooMany, Name}
-use Rattle.script.specs.declared.form.Setting.{Setting}
-use Rattle.script.specs.declared.form.Setting.the-variants.{Cycle, Start, Timeout, Catch}
+use Rattle.forms.specs.declared.form.Setting.{Setting}
+use Rattle.forms.specs.declared.form.Setting.the-variants.{Cycle, Start, Timeout, Catch}
 use Rattle.script.specs.Faults.{at}
-use Rattle.script.specs.Forms.{formOf}
+use Rattle.forms.specs.Forms.{formOf}
 use Rattle.lines.specs.Lines.{Text, textOf}
-use Rattle.script.specs.Meaning.{Act, sleep, spawn, wake, abort, stop, await, done, fault, Task, Plan, Says, setting, task}
+use Rattle.forms.specs.Meaning.{Act, sleep, spawn, wake, abort, stop, await, done, fault, Task, Plan, Says, setting, task}
 
 -- no script has more bytes, no script more tasks, and no task more steps
 abbrev pub mostBytes : ℕ

@@ -14,10 +14,10 @@ use Rattle.std.specs.declared.result.Result.the-variants.{Ok}
 use Rattle.std.specs.Options.{valueOr}
 use Rattle.tokens.specs.Numbers.{isNumeral, value, isNumber, hasMinus, afterMinus, withSign}
 use Rattle.tokens.specs.Tokens.{Mark, opening, closing, word, number, named, begun, spell, allTokens}
-use Rattle.script.specs.declared.form.Setting.{Setting}
-use Rattle.script.specs.declared.form.Setting.the-variants.{Cycle, Start, Timeout, Catch}
+use Rattle.forms.specs.declared.form.Setting.{Setting}
+use Rattle.forms.specs.declared.form.Setting.the-variants.{Cycle, Start, Timeout, Catch}
 use Rattle.lines.specs.Lines.{bytesOf}
-use Rattle.script.specs.Meaning.{Act, sleep, spawn, wake, abort, stop, await, done, fault, Task, Plan}
+use Rattle.forms.specs.Meaning.{Act, sleep, spawn, wake, abort, stop, await, done, fault, Task, Plan}
 use Rattle.script.specs.Reading.{isAmong, namesOf, allKnown, mostBytes, mostTasks, mostSteps, reading}
 use Rattle.script.specs.Spelled.{spelled, placed}
 

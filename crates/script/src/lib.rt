@@ -1,3 +1,3 @@
-// Scripts: their forms, how a whole script is read, and how it is printed.
+// Scripts: how a whole script is read, and how it is printed.
 pub mod fault;
-pub mod form;
+pub mod script;

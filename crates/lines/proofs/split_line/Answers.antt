@@ -10,7 +10,7 @@ returns-then-length-bytes c =
     let bytes = c .args .bytes .now in
     record {
       cases = textOf-unended bytes (subst (λ (n : ℕ). length bytes ≤ n) (c .line-length-length .ensures) (c .if-length-bytes .taken));
-      shorter = tt
+      shorter = tt;
     }
 
 pub returns : need.returns
@@ -19,5 +19,5 @@ returns c =
     let behind = c .split-at-2 .ensures in
     record {
       cases = textOf-cut _ _ _ _ _ (c .line-length-length .ensures) (c .if-length-bytes .left) (front .front) (front .back) (behind .back);
-      shorter = omega (arith, front .back-len, behind .back-len)
+      shorter = omega (arith, front .back-len, behind .back-len);
     }

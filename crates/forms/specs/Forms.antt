@@ -9,8 +9,8 @@ use Rattle.std.specs.Options.{mapped}
 use Rattle.std.specs.shelf.Text.{sameBytes}
 use Rattle.tokens.specs.Numbers.{naturalOf, integerOf}
 use Rattle.tokens.specs.Tokens.{Mark, opening, closing, word, number, stray, tokensOf}
-use Rattle.script.specs.declared.form.Setting.the-variants.{Cycle, Start, Timeout, Catch}
-use Rattle.script.specs.Meaning.{Act, sleep, spawn, wake, abort, stop, await, done, fault, Says, setting, task}
+use Rattle.forms.specs.declared.form.Setting.the-variants.{Cycle, Start, Timeout, Catch}
+use Rattle.forms.specs.Meaning.{Act, sleep, spawn, wake, abort, stop, await, done, fault, Says, setting, task}
 
 -- the bytes of a word or a number: any of them may be a name
 abbrev pub nameIn : Mark → Option (List ℕ)

@@ -8,7 +8,7 @@ use mathlib.Core.List.{List}
 use Prim.Native.Nat.{ℕ}
 use lib.IntN.{ℤ}
 use Rattle.std.specs.declared.option.Option.{Option}
-use Rattle.script.specs.declared.form.Setting.{Setting}
+use Rattle.forms.specs.declared.form.Setting.{Setting}
 
 pub data Act : Type 0 where
   sleep : ℕ → Act

@@ -1,3 +1,0 @@
--- Lemmas of the lines of events.
-mod Ahead
-mod Reading
