@@ -1,3 +1,5 @@
-// Scripts: how a whole script is read, and how it is printed.
-pub mod fault;
+// Scripts: how a whole script is read.
+mod draft;
+mod names;
+pub mod read;
 pub mod script;

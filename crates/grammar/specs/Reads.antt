@@ -18,8 +18,8 @@ use Rattle.forms.specs.declared.form.Setting.{Setting}
 use Rattle.forms.specs.declared.form.Setting.the-variants.{Cycle, Start, Timeout, Catch}
 use Rattle.lines.specs.Lines.{bytesOf}
 use Rattle.forms.specs.Meaning.{Act, sleep, spawn, wake, abort, stop, await, done, fault, Task, Plan}
-use Rattle.script.specs.Reading.{isAmong, namesOf, allKnown, mostBytes, mostTasks, mostSteps, reading}
-use Rattle.script.specs.Spelled.{spelled, placed}
+use Rattle.grammar.specs.Reading.{isAmong, namesOf, allKnown, mostBytes, mostTasks, mostSteps, reading}
+use Rattle.grammar.specs.Spelled.{spelled, placed}
 
 -- the word writes the number n in digits, and n fits so many bits
 abbrev pub Writes : ℕ → ℕ → List ℕ → Type 0

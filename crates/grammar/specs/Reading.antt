@@ -12,11 +12,11 @@ use Rattle.std.specs.declared.result.Result.the-variants.{Ok, Err}
 use Rattle.std.specs.Options.{isSome, valueOr}
 use Rattle.std.specs.shelf.Text.{sameBytes}
 use Rattle.tokens.specs.Numbers.{isEmpty}
-use Rattle.script.specs.declared.fault.Fault.{Fault}
-use Rattle.script.specs.declared.fault.Reason.the-variants.{TooLong, NoForm, TooMany, Name}
+use Rattle.faults.specs.declared.fault.Fault.{Fault}
+use Rattle.faults.specs.declared.fault.Reason.the-variants.{TooLong, NoForm, TooMany, Name}
 use Rattle.forms.specs.declared.form.Setting.{Setting}
 use Rattle.forms.specs.declared.form.Setting.the-variants.{Cycle, Start, Timeout, Catch}
-use Rattle.script.specs.Faults.{at}
+use Rattle.faults.specs.Faults.{at}
 use Rattle.forms.specs.Forms.{formOf}
 use Rattle.lines.specs.Lines.{Text, textOf}
 use Rattle.forms.specs.Meaning.{Act, sleep, spawn, wake, abort, stop, await, done, fault, Task, Plan, Says, setting, task}

@@ -1,0 +1,4 @@
+-- What the bytes of a script say.
+pub mod Reading
+pub mod Reads
+pub mod Spelled
