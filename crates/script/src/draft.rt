@@ -4,7 +4,7 @@ ghost use Rattle.std.specs.declared.option.Option.the-variants.{Some};
 ghost use Rattle.forms.specs.Forms.{formOf};
 ghost use Rattle.forms.specs.Views.{actsOf, saysOf, taskOf};
 ghost use Rattle.grammar.specs.Reading.{blank, drafted, hasRoom, inPlace, planned, withSetting};
-ghost use Rattle.script.specs.Drafts.{objection, onLine, saidIn, AgreesAt};
+ghost use Rattle.script.specs.Drafts.{isGiven, objection, onLine, saidIn, AgreesAt};
 ghost use Rattle.script.specs.Views.{scriptOf, seen};
 ghost use Rattle.script.specs.declared.draft.DraftFault.the-variants as fault;
 use crate::names::is_among;
@@ -86,17 +86,22 @@ impl<'a> Draft<'a> {
         }
     }
 
-    // Settings come before the tasks, each at most once.
-    fn in_place(&self, setting: Setting) -> bool
-        ensures { λ r. ⌜ r ≡ inPlace setting (saidIn (now (self .entry))) ⌝ }
+    fn is_given(&self, setting: Setting) -> bool
+        ensures { λ r. ⌜ r ≡ isGiven setting (saidIn (now (self .entry))) ⌝ }
     {
-        let given = match setting {
+        match setting {
             Setting::Cycle(_) => self.cycle_ns.is_some(),
             Setting::Start(_) => self.start_ns.is_some(),
             Setting::Timeout(_) => self.timeout_ns.is_some(),
             Setting::Catch => self.catch,
-        };
-        self.tasks.is_empty() && !given
+        }
+    }
+
+    // Settings come before the tasks, each at most once.
+    fn in_place(&self, setting: Setting) -> bool
+        ensures { λ r. ⌜ r ≡ inPlace setting (saidIn (now (self .entry))) ⌝ }
+    {
+        self.tasks.is_empty() && !self.is_given(setting)
     }
 
     fn set(&mut self, setting: Setting)
@@ -136,14 +141,6 @@ impl<'a> Draft<'a> {
                 Ok(())
             }
         }
-    }
-
-    // The draft with what its next line says.
-    pub fn take_line(&mut self, heap: Global, number: usize, line: &'a [u8]) -> Result<(), DraftFault>
-        ensures { λ r. ⌜ AgreesAt number r (saidIn (now (self .exit))) (drafted number (formOf (now (line .entry))) (saidIn (now (self .entry)))) ⌝ }
-    {
-        let form = read_form(heap, line)?;
-        self.accept(number, form)
     }
 
     // The script that the draft is, where its names are in order.

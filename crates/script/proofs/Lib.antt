@@ -1,0 +1,3 @@
+-- Lemmas on drafts and on the names of tasks.
+mod Naming
+mod Places
