@@ -4,5 +4,6 @@ pub mod Lines
 pub mod Meaning
 pub mod Reading
 pub mod Reads
+pub mod Spellable
 pub mod Spelled
 pub mod Views

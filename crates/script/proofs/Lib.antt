@@ -1,0 +1,4 @@
+-- Lemmas of the script.
+mod Breaks
+mod Decimals
+mod Placing
