@@ -1,4 +1,5 @@
 -- Lemmas of the script.
 mod Breaks
+mod Canonical
 mod Decimals
 mod Placing
