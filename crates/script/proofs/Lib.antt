@@ -3,3 +3,5 @@ mod Breaks
 mod Canonical
 mod Decimals
 mod Placing
+mod RoundTrip
+mod Soundness
