@@ -19,7 +19,7 @@ use Rattle.script.specs.Meaning.{Act, sleep, spawn, wake, abort, stop, await, 
 use Rattle.script.specs.Reads.{noBreak, withName, withNumber, SaysAct, SaysActs, SaysSetting, SaysTask, SettingLines, TaskLines, cycleIn, startIn, timeoutIn, catchIn, OnceEach, Reads}
 use Rattle.script.specs.Spellable.{Fits, IsName, SpellableAct, SpellableActs, SpellableTimeout, SpellableTask, SpellableTasks, Spellable}
 use Rattle.script.specs.Spelled.{ending, spelledAct, spelledActs, spelledTask, spelledTasks, spelledTimeout, spelledCatch, spelled, placedFrom, firstLine, placed}
-use Rattle.script.proofs.Breaks.{Sound, AllSound, allSound-append, sound-named, sound-decimal, sound-signed, line-spelled}
+use Rattle.script.proofs.Unbroken.{Sound, AllSound, allSound-append, sound-named, sound-decimal, sound-signed, line-spelled}
 use Rattle.script.proofs.Decimals.{writes-decimal, writes-signed, signed-fits-32, signed-fits-64}
 use Rattle.script.proofs.Placing.{namesStand-placed}
 
@@ -158,12 +158,12 @@ bytesOf-lines p =
     let later = timeoutSettings (p .timeout) ++ catchSettings (p .catch) in
     let more = bytesOf (headsOf later ++ bodiesOf (p .tasks)) in
     sym (
-      number-line-ends (codes "cycle") (decimal (p .cycle)) (spell begun (settingMarks (Start (p .start))) ++ (10 ∷ more))
-      ∙ ap (λ (bs : List ℕ). codes "(cycle " ++ (decimal (p .cycle) ++ (ending ++ bs)))
-          (number-line-ends (codes "start") (decimal (p .start)) more
-          ∙ ap (λ (bs : List ℕ). codes "(start " ++ (decimal (p .start) ++ (ending ++ bs)))
-              (bytesOf-timeout (p .timeout) (p .catch) (bodiesOf (p .tasks))
-              ∙ ap (λ (bs : List ℕ). spelledTimeout (p .timeout) ++ (spelledCatch (p .catch) ++ bs)) (bytesOf-bodies (p .tasks)))))
+    number-line-ends (codes "cycle") (decimal (p .cycle)) (spell begun (settingMarks (Start (p .start))) ++ (10 ∷ more))
+    ∙ ap (λ (bs : List ℕ). codes "(cycle " ++ (decimal (p .cycle) ++ (ending ++ bs)))
+    (number-line-ends (codes "start") (decimal (p .start)) more
+    ∙ ap (λ (bs : List ℕ). codes "(start " ++ (decimal (p .start) ++ (ending ++ bs)))
+    (bytesOf-timeout (p .timeout) (p .catch) (bodiesOf (p .tasks))
+    ∙ ap (λ (bs : List ℕ). spelledTimeout (p .timeout) ++ (spelledCatch (p .catch) ++ bs)) (bytesOf-bodies (p .tasks)))))
 
 -- what tokens say
 
@@ -283,16 +283,16 @@ length-heads c s (Some n) false = refl
 pub spelled-reads : (p : Plan) → Spellable p → Reads (spelled p) (placed p)
 unfolding cycleIn startIn
 spelled-reads p h =
-    record
-      { settings = settingsOf p
-      ; heads = headsOf (settingsOf p)
-      ; bodies = bodiesOf (p .tasks)
-      ; bytes = bytesOf-lines p
-      ; says-settings = setting-lines (settingsOf p) (fit-settings (p .cycle) (p .start) (p .timeout) (p .catch) (h .fits-cycle) (h .fits-start) (h .fits-timeout))
-      ; says-tasks =
+    record {
+      settings = settingsOf p;
+      heads = headsOf (settingsOf p);
+      bodies = bodiesOf (p .tasks);
+      bytes = bytesOf-lines p;
+      says-settings = setting-lines (settingsOf p) (fit-settings (p .cycle) (p .start) (p .timeout) (p .catch) (h .fits-cycle) (h .fits-start) (h .fits-timeout));
+      says-tasks =
           subst (λ (n : ℕ). TaskLines n (placedFrom (firstLine p) (p .tasks)) (bodiesOf (p .tasks))) (sym (length-heads (p .cycle) (p .start) (p .timeout) (p .catch)))
-            (task-lines (firstLine p) (p .tasks) (h .spells-tasks))
-      ; once = once-settings (p .cycle) (p .start) (p .timeout) (p .catch)
-      ; follows = (refl, refl, timeoutIn-settings (p .cycle) (p .start) (p .timeout) (p .catch), catchIn-settings (p .cycle) (p .start) (p .timeout) (p .catch))
-      ; names = namesStand-placed (firstLine p) (p .tasks) (h .names)
-      }
+          (task-lines (firstLine p) (p .tasks) (h .spells-tasks));
+      once = once-settings (p .cycle) (p .start) (p .timeout) (p .catch);
+      follows = (refl, refl, timeoutIn-settings (p .cycle) (p .start) (p .timeout) (p .catch), catchIn-settings (p .cycle) (p .start) (p .timeout) (p .catch));
+      names = namesStand-placed (firstLine p) (p .tasks) (h .names);
+    }

@@ -88,18 +88,18 @@ isName-minus w h = (and-parts (not (isEmpty w)) (allPlain w) (h .0) .1, h .1)
 signed-written : (z : ℤ) → mag z < 2 ^ 63 → Signed z
 signed-written (pos n) h =
     let fits : n < 2 ^ 64 = omega arith in
-    record
-      { is-number = isNumber-decimal n fits
-      ; has-value = rw (hasMinus-digits (decimal n) (allDigits-decimal n fits), afterMinus-digits (decimal n) (allDigits-decimal n fits), value-of-decimal n fits)
-      ; is-name = isName-decimal n fits
-      }
+    record {
+      is-number = isNumber-decimal n fits;
+      has-value = rw (hasMinus-digits (decimal n) (allDigits-decimal n fits), afterMinus-digits (decimal n) (allDigits-decimal n fits), value-of-decimal n fits);
+      is-name = isName-decimal n fits;
+    }
 signed-written (negsuc n) h =
     let fits : suc n < 2 ^ 64 = omega arith in
-    record
-      { is-number = isNumeral-decimal (suc n) fits
-      ; has-value = rw (value-of-decimal (suc n) fits)
-      ; is-name = isName-minus (decimal (suc n)) (isName-decimal (suc n) fits)
-      }
+    record {
+      is-number = isNumeral-decimal (suc n) fits;
+      has-value = rw (value-of-decimal (suc n) fits);
+      is-name = isName-minus (decimal (suc n)) (isName-decimal (suc n) fits);
+    }
 
 mag-fits-64 : (z : ℤ) → FitsSigned 64 z → mag z < 2 ^ 63
 mag-fits-64 (pos n) h = omega (arith, ltb→lt)

@@ -1,7 +1,7 @@
 -- Lemmas of the script.
-mod Breaks
 mod Canonical
 mod Decimals
 mod Placing
 mod RoundTrip
 mod Soundness
+mod Unbroken

@@ -12,7 +12,7 @@ use Rattle.script.specs.declared.form.Setting.the-variants.{Cycle, Start, Time
 use Rattle.script.specs.Meaning.{Act, sleep, spawn, wake, abort, stop, await, done, fault, Task, Plan}
 use Rattle.script.specs.Reads.{SaysAct, SaysActs, SaysSetting, SaysTask, SettingLines, TaskLines, Line, cycleIn, startIn, timeoutIn, Reads}
 use Rattle.script.specs.Spellable.{Fits, SpellableAct, SpellableActs, SpellableTimeout, SpellableTask, SpellableTasks, Spellable}
-use Rattle.script.proofs.Breaks.{AllSound, allSound-parts, named-sound, allSound-line}
+use Rattle.script.proofs.Unbroken.{AllSound, allSound-parts, named-sound, allSound-line}
 use Rattle.script.proofs.Canonical.{FitSetting, FitSettings}
 
 spellable-act : (a : Act) (ms : List Mark) → AllSound ms → SaysAct a ms → SpellableAct a
@@ -83,10 +83,10 @@ fits-timeoutIn (Catch ∷ ss) h = fits-timeoutIn ss (h .1)
 pub reads-spellable : (bs : List ℕ) (p : Plan) → Reads bs p → Spellable p
 reads-spellable bs p r =
     let fit = fit-settings-said (r .settings) (r .heads) (r .says-settings) in
-    record
-      { fits-cycle = rw (r .follows .0) (fits-cycleIn (r .settings) fit)
-      ; fits-start = rw (r .follows .1) (fits-startIn (r .settings) fit)
-      ; fits-timeout = rw (r .follows .2) (fits-timeoutIn (r .settings) fit)
-      ; spells-tasks = spellable-tasks (length (r .heads) + 1) (p .tasks) (r .bodies) (r .says-tasks)
-      ; names = r .names
-      }
+    record {
+      fits-cycle = rw (r .follows .0) (fits-cycleIn (r .settings) fit);
+      fits-start = rw (r .follows .1) (fits-startIn (r .settings) fit);
+      fits-timeout = rw (r .follows .2) (fits-timeoutIn (r .settings) fit);
+      spells-tasks = spellable-tasks (length (r .heads) + 1) (p .tasks) (r .bodies) (r .says-tasks);
+      names = r .names;
+    }
