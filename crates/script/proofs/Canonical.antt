@@ -60,15 +60,15 @@ spell-named p w ms = go (isNumber w)
     go true = refl
     go false = refl
 
-spell-withNumber : (k w : List ℕ) (ms : List Mark) → spell ended (withNumber k w ++ ms) ≡ 32 ∷ 40 ∷ (k ++ (32 ∷ (w ++ (41 ∷ spell ended ms))))
+pub spell-withNumber : (k w : List ℕ) (ms : List Mark) → spell ended (withNumber k w ++ ms) ≡ 32 ∷ 40 ∷ (k ++ (32 ∷ (w ++ (41 ∷ spell ended ms))))
 unfolding spell
 spell-withNumber k w ms = refl
 
-spell-withName : (k w : List ℕ) (ms : List Mark) → spell ended (withName k w ++ ms) ≡ 32 ∷ 40 ∷ (k ++ (32 ∷ (w ++ (41 ∷ spell ended ms))))
+pub spell-withName : (k w : List ℕ) (ms : List Mark) → spell ended (withName k w ++ ms) ≡ 32 ∷ 40 ∷ (k ++ (32 ∷ (w ++ (41 ∷ spell ended ms))))
 unfolding spell
 spell-withName k w ms = ap (λ (bs : List ℕ). 32 ∷ 40 ∷ (k ++ bs)) (spell-named ended w (closing ∷ ms))
 
-spell-await : (ms : List Mark) → spell ended (actMarks await ++ ms) ≡ 32 ∷ (spelledAct await ++ spell ended ms)
+pub spell-await : (ms : List Mark) → spell ended (actMarks await ++ ms) ≡ 32 ∷ (spelledAct await ++ spell ended ms)
 unfolding spell
 spell-await ms = refl
 
@@ -95,11 +95,14 @@ spell-acts (a ∷ more) ms =
     ∙ ap (λ (bs : List ℕ). 32 ∷ (spelledAct a ++ bs)) (spell-acts more ms)
     ∙ ap (32 ∷_) (sym (append-assoc (spelledAct a) (spelledActs more) (spell ended ms)))
 
+pub spell-titled : (w : List ℕ) (ms : List Mark) → spell begun (opening ∷ word (codes "task") ∷ named w ∷ ms) ≡ codes "(task " ++ (w ++ spell ended ms)
+unfolding spell
+spell-titled w ms = ap (codes "(task" ++_) (spell-named ended w ms)
+
 spell-task : (t : Task) → spell begun (taskMarks t) ≡ codes "(task " ++ (t .name ++ (spelledActs (t .acts) ++ codes ")"))
 unfolding spell
 spell-task t =
-    ap (codes "(task" ++_) (spell-named ended (t .name) (stepMarks (t .acts) ++ closing ∷ []))
-    ∙ ap (λ (bs : List ℕ). codes "(task " ++ (t .name ++ bs)) (spell-acts (t .acts) (closing ∷ []))
+    spell-titled (t .name) (stepMarks (t .acts) ++ closing ∷ []) ∙ ap (λ (bs : List ℕ). codes "(task " ++ (t .name ++ bs)) (spell-acts (t .acts) (closing ∷ []))
 
 -- the lines of settings, and of tasks
 

@@ -18,7 +18,8 @@ use Rattle.tokens.specs.Tokens.{endsWord, allPlain, isWord}
 use Rattle.script.specs.Reads.{noBreak, Writes, WritesSigned}
 use Rattle.script.specs.Spellable.{Fits, FitsSigned, IsName}
 
-own : Numerals (λ ds. allDigits ds ≡ true) value
+-- the digits and the value here are those that the library speaks of
+pub own : Numerals (λ ds. allDigits ds ≡ true) value
 own = numerals-by-fold _ (search needs) readOn (search needs)
 
 -- a digit is none of the bytes that end a word, a line or begin a negative number
@@ -101,11 +102,11 @@ signed-written (negsuc n) h =
       is-name = isName-minus (decimal (suc n)) (isName-decimal (suc n) fits);
     }
 
-mag-fits-64 : (z : ℤ) → FitsSigned 64 z → mag z < 2 ^ 63
+pub mag-fits-64 : (z : ℤ) → FitsSigned 64 z → mag z < 2 ^ 63
 mag-fits-64 (pos n) h = omega (arith, ltb→lt)
 mag-fits-64 (negsuc n) h = omega (arith, leb→le)
 
-mag-fits-32 : (z : ℤ) → FitsSigned 32 z → mag z < 2 ^ 63
+pub mag-fits-32 : (z : ℤ) → FitsSigned 32 z → mag z < 2 ^ 63
 mag-fits-32 (pos n) h = omega (arith, ltb→lt)
 mag-fits-32 (negsuc n) h = omega (arith, leb→le)
 

@@ -1,6 +1,7 @@
 -- Lemmas of the script.
 mod Canonical
 mod Decimals
+mod Growth
 mod Placing
 mod RoundTrip
 mod Soundness

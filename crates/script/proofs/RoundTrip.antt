@@ -13,10 +13,11 @@ use Rattle.script.specs.Faults.{at}
 use Rattle.script.specs.Lines.{textOf}
 use Rattle.script.specs.Meaning.{Plan}
 use Rattle.script.specs.Reading.{mostBytes, told, reading}
-use Rattle.script.specs.Reads.{Within, Exact, Respelled, Settled}
+use Rattle.script.specs.Reads.{Within, Exact, Respelled, Settled, Grows}
 use Rattle.script.specs.Spellable.{Spellable, ReadBack}
 use Rattle.script.specs.Spelled.{spelled, placed}
 use Rattle.script.proofs.Canonical.{spelled-reads}
+use Rattle.script.proofs.Growth.{spelled-grows}
 use Rattle.script.proofs.Placing.{within-placed, spelled-placed}
 use Rattle.script.proofs.Soundness.{reads-spellable}
 
@@ -42,3 +43,6 @@ module _ (exact : (bs : List ℕ) → Exact bs) where
       let again : reading (spelled p) ≡ Ok (placed p) = read-again bs p e (exact (spelled p) .0 q f .1 .0) in
       let same : q ≡ placed p = cc in
       ap spelled same ∙ spelled-placed p
+
+  pub grows : (bs : List ℕ) → Grows bs
+  grows bs p e = spelled-grows bs p (exact bs .0 p e .0)

@@ -187,3 +187,7 @@ Respelled bs = (p : Plan) → reading bs ≡ Ok p → reading (spelled p) ≡ co
 -- what is read from a spelling is spelled as it was
 abbrev pub Settled : List ℕ → Type 0
 Settled bs = (p q : Plan) → reading bs ≡ Ok p → reading (spelled p) ≡ Ok q → spelled q ≡ spelled p
+
+-- what the bytes say is spelled in at most 26 bytes more: the lines of a cycle and of a start that were left out
+abbrev pub Grows : List ℕ → Type 0
+Grows bs = (p : Plan) → reading bs ≡ Ok p → length (spelled p) ≤ length bs + 26
