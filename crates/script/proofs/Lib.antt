@@ -1,0 +1,9 @@
+pub mod Cases
+pub mod Breaks
+pub mod Written
+pub mod Acts
+pub mod Sayings
+pub mod Naming
+pub mod Drafts
+pub mod Exact
+pub mod OnePlan
