@@ -8,10 +8,10 @@ use lib.IntN.{ℤ}
 use Rattle.std.specs.declared.option.Option.{Option}
 use Rattle.std.specs.declared.option.Option.the-variants.{Some, None}
 use Rattle.std.specs.Options.{mapped}
-use Rattle.std.proofs.shelf.Tests.{and-parts, false≢true}
+use Rattle.std.proofs.shelf.Tests.{and-parts, false≢true, not-true}
 use Rattle.tokens.specs.Numbers.{isNumber, naturalOf, integerOf}
 use Rattle.tokens.specs.Tokens.{Mark, opening, closing, word, number, stray, named, isWord, isToken, allTokens}
-use Rattle.tokens.proofs.Spelling.{named-word, named-number, noStray}
+use Rattle.tokens.proofs.Strays.{noStray}
 use Rattle.script.specs.Forms.{nameIn, digitsIn, bind, bareAct, actWith, consed, Stage, between, begun, keyed, given, isOver, actsIn}
 use Rattle.script.specs.Meaning.{Act, sleep, spawn, wake, abort, stop, await, done, fault}
 use Rattle.script.specs.Reads.{Writes, WritesSigned, withName, withNumber, SaysAct, SaysActs}
@@ -24,6 +24,12 @@ nameIn-named w = by (isNumber w)
     by : (t : Bool) → nameIn (cond t (number w) (word w)) ≡ Some w
     by true = refl
     by false = refl
+
+named-word : (w : List ℕ) → not (isNumber w) ≡ true → named w ≡ word w
+named-word w h = rw (not-true (isNumber w) h)
+
+named-number : (w : List ℕ) → isNumber w ≡ true → named w ≡ number w
+named-number w h = rw h
 
 -- a token with a name is the one that the name makes
 pub named-nameIn : (m : Mark) (w : List ℕ) → isToken m ≡ true → nameIn m ≡ Some w → m ≡ named w

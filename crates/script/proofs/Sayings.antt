@@ -10,7 +10,8 @@ use Rattle.std.specs.Options.{mapped}
 use Rattle.std.proofs.shelf.Tests.{and-parts, false≢true}
 use Rattle.tokens.specs.Numbers.{naturalOf}
 use Rattle.tokens.specs.Tokens.{Mark, opening, closing, word, number, stray, named, isToken, allTokens, tokensOf}
-use Rattle.tokens.proofs.Spelling.{spelled-law, noStray, allTokens-line}
+use Rattle.tokens.proofs.Spelling.{tokens-spelled}
+use Rattle.tokens.proofs.Strays.{noStray, allTokens-line}
 use Rattle.script.specs.declared.form.Setting.{Setting}
 use Rattle.script.specs.declared.form.Setting.the-variants.{Cycle, Start, Timeout, Catch}
 use Rattle.script.specs.Forms.{nameIn, digitsIn, bind, between, isOver, actsIn, isClosed, timeIn, taskIn, formBy, formAfter, formIn, formOf}
@@ -181,8 +182,8 @@ formIn-said (task w acts) ms h =
 pub formOf-says : (l : List ℕ) (x : Says) → noBreak l ≡ true → formOf l ≡ Some x → Line (SaysForm x) l
 formOf-says l x whole h =
     let t = allTokens-line l (formIn-unstray (tokensOf l) x h) in
-    (tokensOf l, t, spelled-law l .0 t, whole, formIn-says (tokensOf l) x t h)
+    (tokensOf l, t, tokens-spelled l .0 t, whole, formIn-says (tokensOf l) x t h)
 
 -- a line that says a form is that form
 pub formOf-said : (l : List ℕ) (x : Says) → Line (SaysForm x) l → formOf l ≡ Some x
-formOf-said l x h = ap formIn (spelled-law l .1 (h .0) (h .1) (h .2)) ∙ formIn-said x (h .0) (h .4)
+formOf-said l x h = ap formIn (tokens-spelled l .1 (h .0) (h .1) (h .2)) ∙ formIn-said x (h .0) (h .4)

@@ -2,10 +2,11 @@
 use mathlib.Core.Bool.{Bool, true, false, _&&_, not, cond}
 use mathlib.Core.List.{List, [], _∷_}
 use Prim.Native.Nat.{ℕ, _+_, _*_, _-_, _^_}
-use lib.Dec.{eqb, leb, ltb}
+use lib.Dec.{eqb, leb}
 use lib.IntN.{ℤ, pos, negℤ}
 use Rattle.std.specs.declared.option.Option.{Option}
 use Rattle.std.specs.declared.option.Option.the-variants.{Some, None}
+use Rattle.std.specs.Options.{mapped}
 
 -- the byte is one of the ten digits
 abbrev pub isDigit : ℕ → Bool
@@ -52,15 +53,22 @@ isNumber bs = isNumeral (afterMinus bs)
 abbrev pub withSign : Bool → ℕ → ℤ
 withSign minus n = cond minus (negℤ (pos n)) (pos n)
 
--- the least magnitude that does not fit so many bits beside that sign
-abbrev pub tooFar : Bool → ℕ → ℕ
-tooFar minus bits = cond minus (2 ^ (bits - 1) + 1) (2 ^ (bits - 1))
+-- the number that the bytes write, where they are digits and it is at most the given one
+abbrev pub numeralUpTo : ℕ → List ℕ → Option ℕ
+numeralUpTo most bs = cond (isNumeral bs && leb (value bs) most) (Some (value bs)) None
 
--- the unsigned number that the bytes write, where they are digits and it fits so many bits
+-- the largest magnitude beside a sign, where `most` is the largest without one: there is one negative number more
+abbrev pub farthest : Bool → ℕ → ℕ
+farthest minus most = cond minus (most + 1) most
+
+-- the number that the bytes write with a minus sign or none, where it is from - most - 1 to most
+abbrev pub integerUpTo : ℕ → List ℕ → Option ℤ
+integerUpTo most bs = mapped (withSign (hasMinus bs)) (numeralUpTo (farthest (hasMinus bs) most) (afterMinus bs))
+
+-- the unsigned number of so many bits that the bytes write
 abbrev pub naturalOf : ℕ → List ℕ → Option ℕ
-naturalOf bits bs = cond (isNumeral bs && ltb (value bs) (2 ^ bits)) (Some (value bs)) None
+naturalOf bits bs = numeralUpTo (2 ^ bits - 1) bs
 
--- the signed number that the bytes write, where they look like a number and it fits so many bits
+-- the signed number of so many bits that the bytes write
 abbrev pub integerOf : ℕ → List ℕ → Option ℤ
-integerOf bits bs =
-    cond (isNumber bs && ltb (value (afterMinus bs)) (tooFar (hasMinus bs) bits)) (Some (withSign (hasMinus bs) (value (afterMinus bs)))) None
+integerOf bits bs = integerUpTo (2 ^ (bits - 1) - 1) bs

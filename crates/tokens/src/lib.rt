@@ -1,5 +1,5 @@
 // The tokens of a script's line, and the numbers that its words write.
 pub mod cursor;
 pub mod number;
-pub mod piece;
+mod piece;
 pub mod token;

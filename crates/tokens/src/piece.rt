@@ -2,7 +2,7 @@
 ghost use mathlib.Core.Path.{_≡_};
 ghost use mathlib.Core.List.{List, [], _∷_};
 ghost use Rattle.std.specs.Options.{Cases, mapped};
-ghost use Rattle.tokens.specs.Tokens.{separator, wordLength, parts};
+ghost use Rattle.tokens.specs.Tokens.{separator, endsWord, wordLength, parts};
 ghost use Rattle.tokens.specs.Cursor.{partOf};
 
 #[derive(Clone, Copy)]
@@ -25,12 +25,18 @@ fn separator_at<'a>(byte: u8) -> Option<Piece<'a>>
     }
 }
 
+fn ends_word(byte: u8) -> bool
+    ensures { λ r. ⌜ r ≡ endsWord byte ⌝ }
+{
+    separator_at(byte).is_some()
+}
+
 // How many bytes at the front belong to a word.
 fn word_length(bytes: &[u8]) -> usize
     ensures { λ r. ⌜ r ≡ wordLength (now (bytes .entry)) ⌝ }
 {
     for (i, byte) in bytes.iter().enumerate() {
-        if separator_at(*byte).is_some() {
+        if ends_word(*byte) {
             return i;
         }
     }
