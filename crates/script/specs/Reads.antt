@@ -180,6 +180,10 @@ Exact bs =
     ((p : Plan) → reading bs ≡ Ok p → Reads bs p × Within bs p)
     × ((p : Plan) → Reads bs p → Within bs p → reading bs ≡ Ok p)
 
+-- the bytes say at most one plan, be it within the limits or not
+abbrev pub OneReading : List ℕ → Type 0
+OneReading bs = (p q : Plan) → Reads bs p → Reads bs q → p ≡ q
+
 -- what the bytes say, spelled anew, says the same, with each task on its new line; only a spelling that is too long is refused, for that
 abbrev pub Respelled : List ℕ → Type 0
 Respelled bs = (p : Plan) → reading bs ≡ Ok p → reading (spelled p) ≡ cond (ltb mostBytes (length (spelled p))) (Err (at 0 TooLong)) (Ok (placed p))
