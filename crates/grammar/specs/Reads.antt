@@ -4,18 +4,20 @@ use mathlib.Core.Bool.{Bool, true, false, cond}
 use mathlib.Core.List.{List, [], _∷_, _++_}
 use Prim.Native.Nat.{ℕ, _+_, _-_, _^_, _<_, _≤_}
 use lib.Chars.{codes}
-use lib.Dec.{eqb}
+use lib.Dec.{eqb, ltb}
 use lib.IntN.{ℤ, pos, negℤ}
 use lib.ListN.{length}
 use lib.Signed.{_≤ℤ_, _<ℤ_}
 use Rattle.std.specs.declared.option.Option.{Option}
 use Rattle.std.specs.declared.option.Option.the-variants.{Some, None}
-use Rattle.std.specs.declared.result.Result.the-variants.{Ok}
+use Rattle.std.specs.declared.result.Result.the-variants.{Ok, Err}
 use Rattle.std.specs.Options.{valueOr}
 use Rattle.tokens.specs.Numbers.{isNumeral, value, isNumber, hasMinus, afterMinus, withSign}
 use Rattle.tokens.specs.Tokens.{Mark, opening, closing, word, number, named, begun, spell, allTokens}
 use Rattle.forms.specs.declared.form.Setting.{Setting}
 use Rattle.forms.specs.declared.form.Setting.the-variants.{Cycle, Start, Timeout, Catch}
+use Rattle.faults.specs.declared.fault.Reason.the-variants.{TooLong}
+use Rattle.faults.specs.Faults.{at}
 use Rattle.lines.specs.Lines.{bytesOf}
 use Rattle.forms.specs.Meaning.{Act, sleep, spawn, wake, abort, stop, await, done, fault, Task, Plan}
 use Rattle.grammar.specs.Reading.{isAmong, namesOf, allKnown, mostBytes, mostTasks, mostSteps, reading}
@@ -178,6 +180,18 @@ Exact bs =
     ((p : Plan) → reading bs ≡ Ok p → Reads bs p × Within bs p)
     × ((p : Plan) → Reads bs p → Within bs p → reading bs ≡ Ok p)
 
--- what the bytes say, spelled anew, says the same, with each task on its new line, unless the new spelling is too long
+-- the bytes say at most one plan, be it within the limits or not
+abbrev pub OneReading : List ℕ → Type 0
+OneReading bs = (p q : Plan) → Reads bs p → Reads bs q → p ≡ q
+
+-- what the bytes say, spelled anew, says the same, with each task on its new line; only a spelling that is too long is refused, for that
 abbrev pub Respelled : List ℕ → Type 0
-Respelled bs = (p : Plan) → reading bs ≡ Ok p → length (spelled p) ≤ mostBytes → reading (spelled p) ≡ Ok (placed p)
+Respelled bs = (p : Plan) → reading bs ≡ Ok p → reading (spelled p) ≡ cond (ltb mostBytes (length (spelled p))) (Err (at 0 TooLong)) (Ok (placed p))
+
+-- what is read from a spelling is spelled as it was
+abbrev pub Settled : List ℕ → Type 0
+Settled bs = (p q : Plan) → reading bs ≡ Ok p → reading (spelled p) ≡ Ok q → spelled q ≡ spelled p
+
+-- what the bytes say is spelled in at most 26 bytes more: the lines of a cycle and of a start that were left out
+abbrev pub Grows : List ℕ → Type 0
+Grows bs = (p : Plan) → reading bs ≡ Ok p → length (spelled p) ≤ length bs + 26
