@@ -1,0 +1,73 @@
+-- One step taken from the front of a task's tokens, and what is left after it. Assumes nothing.
+use mathlib.Core.Bool.{Bool, true, false, cond}
+use mathlib.Core.List.{List, [], _∷_, _++_}
+use Prim.Native.Nat.{ℕ}
+use Rattle.std.specs.declared.option.Option.{Option}
+use Rattle.std.specs.declared.option.Option.the-variants.{Some, None}
+use Rattle.std.specs.Options.{mapped}
+use Rattle.tokens.specs.Cursor.{later}
+use Rattle.tokens.specs.Tokens.{Mark, opening, closing, word, number, stray}
+use Rattle.forms.specs.Forms.{bind, bareAct, actWith, isOver, actsIn, between}
+use Rattle.forms.specs.Meaning.{Act}
+
+-- the bracket that closes a step comes first
+abbrev pub endsStep : List Mark → Bool
+endsStep [] = false
+endsStep (opening ∷ ms) = false
+endsStep (closing ∷ ms) = true
+endsStep (word w ∷ ms) = false
+endsStep (number w ∷ ms) = false
+endsStep (stray ∷ ms) = false
+
+-- the argument that stands before the bracket which closes a step, or that there is none, if the step closes
+abbrev pub argumentIn : List Mark → Option (Option Mark)
+argumentIn [] = None
+argumentIn (opening ∷ ms) = None
+argumentIn (closing ∷ ms) = Some None
+argumentIn (word w ∷ ms) = cond (endsStep ms) (Some (Some (word w))) None
+argumentIn (number w ∷ ms) = cond (endsStep ms) (Some (Some (number w))) None
+argumentIn (stray ∷ ms) = None
+
+-- what is left after an argument and the bracket that closes the step
+abbrev pub afterArgument : List Mark → List Mark
+afterArgument [] = []
+afterArgument (opening ∷ ms) = ms
+afterArgument (closing ∷ ms) = ms
+afterArgument (word w ∷ ms) = later ms
+afterArgument (number w ∷ ms) = later ms
+afterArgument (stray ∷ ms) = stray ∷ ms
+
+-- the step that a keyword is, with an argument or by itself
+abbrev pub actBy : List ℕ → Option Mark → Option Act
+actBy k None = bareAct k
+actBy k (Some m) = actWith k m
+
+-- the step whose opening bracket was read
+abbrev pub stepIn : List Mark → Option Act
+stepIn [] = None
+stepIn (opening ∷ ms) = None
+stepIn (closing ∷ ms) = None
+stepIn (word k ∷ ms) = bind (argumentIn ms) (actBy k)
+stepIn (number k ∷ ms) = None
+stepIn (stray ∷ ms) = None
+
+-- what is left after the step whose opening bracket was read
+abbrev pub afterStep : List Mark → List Mark
+afterStep ms = afterArgument (later ms)
+
+-- the next step of a task, or that there is none, if the task goes on or ends the line
+abbrev pub nextIn : List Mark → Option (Option Act)
+nextIn [] = None
+nextIn (opening ∷ ms) = mapped Some (stepIn ms)
+nextIn (closing ∷ ms) = cond (isOver ms) (Some None) None
+nextIn (word w ∷ ms) = None
+nextIn (number w ∷ ms) = None
+nextIn (stray ∷ ms) = None
+
+-- what is left after the next step
+abbrev pub afterNext : List Mark → List Mark
+afterNext ms = afterStep (later ms)
+
+-- the acts that were read, before those that the tokens still say
+abbrev pub readBefore : List Act → List Mark → Option (List Act)
+readBefore acts ms = mapped (λ more. acts ++ more) (actsIn between ms)
