@@ -1,17 +1,21 @@
 -- The steps of a task are its next step before the steps that are left. Assumes nothing.
 use mathlib.Core.Path.{_≡_, refl, ap, sym, _∙_}
-use mathlib.Core.List.{List, [], _∷_, _++_, append-assoc, append-nil}
-use Prim.Native.Nat.{ℕ, _≤_, _<_}
-use native.Mathlib.Omega.{arith}
-use lib.ListN.{length}
+use mathlib.Core.List.{List, [], _∷_, _++_, map, append-assoc, append-nil}
+use Prim.Native.Nat.{ℕ}
 use Rattle.std.specs.declared.option.Option.{Option}
 use Rattle.std.specs.declared.option.Option.the-variants.{Some, None}
-use Rattle.std.specs.Options.{mapped}
+use Rattle.std.specs.declared.result.Result.{Result}
+use Rattle.std.specs.declared.result.Result.the-variants.{Ok, Err}
+use Rattle.std.specs.Options.{mapped, okOr}
 use mathlib.Core.Bool.{cond}
+use Rattle.tokens.specs.declared.token.LineFault.{LineFault}
+use Rattle.tokens.specs.declared.token.LineFault.the-variants.{NoForm}
 use Rattle.tokens.specs.Cursor.{later}
 use Rattle.tokens.specs.Tokens.{Mark, opening, closing, word, number, stray}
 use Rattle.forms.specs.Forms.{bind, consed, actsIn, between, begun, keyed, given}
 use Rattle.forms.specs.Meaning.{Act}
+use Rattle.forms.specs.declared.form.Step.{Step}
+use Rattle.forms.specs.Views.{actOf}
 use Rattle.forms.specs.Steps.{endsStep, argumentIn, afterArgument, actBy, stepIn, afterStep, nextIn, afterNext, readBefore}
 
 -- the acts of a task whose next step is this, where these follow it
@@ -62,48 +66,42 @@ acts-next (word w ∷ ms) = refl
 acts-next (number w ∷ ms) = refl
 acts-next (stray ∷ ms) = refl
 
-regrouped : (acts : List Act) (a : Act) (o : Option (List Act)) → mapped (λ more. acts ++ more) (consed (Some a) o) ≡ mapped (λ more. (acts ++ a ∷ []) ++ more) o
-regrouped acts a None = refl
-regrouped acts a (Some more) = ap Some (sym (append-assoc acts (a ∷ []) more))
-
 -- the acts of a task whose next step is known
 acts-by : (ms : List Mark) (next : Option (Option Act)) → nextIn ms ≡ next → actsIn between ms ≡ actsAfter next (actsIn between (afterNext ms))
 acts-by ms next h = acts-next ms ∙ ap (λ n. actsAfter n (actsIn between (afterNext ms))) h
 
--- once the next step is read, it is the last of those that were
-pub readBefore-step : (acts : List Act) (a : Act) (ms : List Mark) → nextIn ms ≡ Some (Some a) → readBefore acts ms ≡ readBefore (acts ++ a ∷ []) (afterNext ms)
-readBefore-step acts a ms h = ap (mapped (λ more. acts ++ more)) (acts-by ms (Some (Some a)) h) ∙ regrouped acts a (actsIn between (afterNext ms))
+regrouped : (acts : List Act) (a : Act) (o : Option (List Act)) → mapped (λ more. acts ++ more) (consed (Some a) o) ≡ mapped (λ more. (acts ++ a ∷ []) ++ more) o
+regrouped acts a None = refl
+regrouped acts a (Some more) = ap Some (sym (append-assoc acts (a ∷ []) more))
 
--- where the task ends, those that were read are all
-pub readBefore-end : (acts : List Act) (ms : List Mark) → nextIn ms ≡ Some None → readBefore acts ms ≡ Some acts
-readBefore-end acts ms h = ap (mapped (λ more. acts ++ more)) (acts-by ms (Some None) h) ∙ ap Some (append-nil acts)
+-- what an answer that is no fault was made of
+said : {A : Type 0} (o : Option A) (x : A) → _≡_ {A = Result A LineFault} (Ok x) (okOr o NoForm) → o ≡ Some x
+said None x h = cc
+said (Some y) x h = cc
+
+-- a fault was made of nothing
+unsaid : {A : Type 0} (o : Option A) (e : LineFault) → _≡_ {A = Result A LineFault} (Err e) (okOr o NoForm) → o ≡ None
+unsaid None e h = refl
+unsaid (Some y) e h = cc
+
+map-last : (steps : List Step) (s : Step) → map actOf (steps ++ s ∷ []) ≡ map actOf steps ++ actOf s ∷ []
+map-last [] s = refl
+map-last (x ∷ steps) s = ap (λ acts. actOf x ∷ acts) (map-last steps s)
+
+module _ (steps : List Step) (o : Option Step) (ms : List Mark) (h : _≡_ {A = Result (Option Act) LineFault} (Ok (mapped actOf o)) (okOr (nextIn ms) NoForm)) where
+  -- once the next step is read, it is the last of those that were
+  pub readBefore-step : (s : Step) (more : List Step) (rest : List Mark) → o ≡ Some s → more ≡ steps ++ s ∷ [] → rest ≡ afterNext ms → readBefore (map actOf steps) ms ≡ readBefore (map actOf more) rest
+  readBefore-step s more rest is grown left =
+      ap (mapped (λ acts. map actOf steps ++ acts)) (acts-by ms (Some (Some (actOf s))) (said (nextIn ms) (mapped actOf o) h ∙ ap (λ p. Some (mapped actOf p)) is))
+      ∙ regrouped (map actOf steps) (actOf s) (actsIn between (afterNext ms))
+      ∙ (λ i. readBefore ((sym (map-last steps s) ∙ ap (map actOf) (sym grown)) i) (sym left i))
+
+  -- where the task ends, those that were read are all
+  pub readBefore-end : o ≡ None → readBefore (map actOf steps) ms ≡ Some (map actOf steps)
+  readBefore-end is =
+      ap (mapped (λ acts. map actOf steps ++ acts)) (acts-by ms (Some None) (said (nextIn ms) (mapped actOf o) h ∙ ap (λ p. Some (mapped actOf p)) is))
+      ∙ ap Some (append-nil (map actOf steps))
 
 -- where what comes next is no step, the task is none
-pub readBefore-none : (acts : List Act) (ms : List Mark) → nextIn ms ≡ None → readBefore acts ms ≡ None
-readBefore-none acts ms h = ap (mapped (λ more. acts ++ more)) (acts-by ms None h)
-
-later-length : (ms : List Mark) → length (later ms) ≤ length ms
-later-length [] = omega arith
-later-length (opening ∷ ms) = omega arith
-later-length (closing ∷ ms) = omega arith
-later-length (word w ∷ ms) = omega arith
-later-length (number w ∷ ms) = omega arith
-later-length (stray ∷ ms) = omega arith
-
-afterArgument-length : (ms : List Mark) → length (afterArgument ms) ≤ length ms
-afterArgument-length [] = omega arith
-afterArgument-length (opening ∷ ms) = omega arith
-afterArgument-length (closing ∷ ms) = omega arith
-afterArgument-length (word w ∷ ms) = omega (arith, later-length ms)
-afterArgument-length (number w ∷ ms) = omega (arith, later-length ms)
-afterArgument-length (stray ∷ ms) = omega arith
-
--- a step takes tokens
-pub afterNext-length : (a : Act) (ms : List Mark) → nextIn ms ≡ Some (Some a) → length (afterNext ms) < length ms
-afterNext-length a [] h = let z : _≡_ {A = ℕ} 0 1 = cc in omega arith
-afterNext-length a (opening ∷ ms) h = omega (arith, afterArgument-length (later ms), later-length ms)
-afterNext-length a (closing ∷ []) h = let z : _≡_ {A = ℕ} 0 1 = cc in omega arith
-afterNext-length a (closing ∷ m ∷ ms) h = let z : _≡_ {A = ℕ} 0 1 = cc in omega arith
-afterNext-length a (word w ∷ ms) h = let z : _≡_ {A = ℕ} 0 1 = cc in omega arith
-afterNext-length a (number w ∷ ms) h = let z : _≡_ {A = ℕ} 0 1 = cc in omega arith
-afterNext-length a (stray ∷ ms) h = let z : _≡_ {A = ℕ} 0 1 = cc in omega arith
+pub readBefore-none : (acts : List Act) (ms : List Mark) (e : LineFault) → _≡_ {A = Result (Option Act) LineFault} (Err e) (okOr (nextIn ms) NoForm) → readBefore acts ms ≡ None
+readBefore-none acts ms e h = ap (mapped (λ more. acts ++ more)) (acts-by ms None (unsaid (nextIn ms) e h))

@@ -4,8 +4,12 @@ use mathlib.Core.List.{List, [], _∷_, _++_}
 use Prim.Native.Nat.{ℕ}
 use Rattle.std.specs.declared.option.Option.{Option}
 use Rattle.std.specs.declared.option.Option.the-variants.{Some, None}
+use Rattle.std.specs.declared.result.Result.{Result}
+use Rattle.std.specs.declared.result.Result.the-variants.{Ok, Err}
 use Rattle.std.specs.Options.{mapped}
-use Rattle.tokens.specs.Cursor.{later}
+use Rattle.tokens.specs.declared.token.LineFault.{LineFault}
+use Rattle.tokens.specs.Cursor.{first, later}
+use Rattle.tokens.specs.Expected.{firstWord}
 use Rattle.tokens.specs.Tokens.{Mark, opening, closing, word, number, stray}
 use Rattle.forms.specs.Forms.{bind, bareAct, actWith, isOver, actsIn, between}
 use Rattle.forms.specs.Meaning.{Act}
@@ -44,29 +48,44 @@ actBy k (Some m) = actWith k m
 
 -- the step whose opening bracket was read
 abbrev pub stepIn : List Mark → Option Act
-stepIn [] = None
-stepIn (opening ∷ ms) = None
-stepIn (closing ∷ ms) = None
-stepIn (word k ∷ ms) = bind (argumentIn ms) (actBy k)
-stepIn (number k ∷ ms) = None
-stepIn (stray ∷ ms) = None
+stepIn ms = bind (firstWord ms) (λ k. bind (argumentIn (later ms)) (actBy k))
+
+-- what is left after a keyword, where one came, and the rest of its step
+abbrev pub afterKeyword : Option (List ℕ) → List Mark → List Mark
+afterKeyword None ms = ms
+afterKeyword (Some k) ms = afterArgument ms
 
 -- what is left after the step whose opening bracket was read
 abbrev pub afterStep : List Mark → List Mark
-afterStep ms = afterArgument (later ms)
+afterStep ms = afterKeyword (firstWord ms) (later ms)
 
--- the next step of a task, or that there is none, if the task goes on or ends the line
+-- the next step of a task whose next token is given, or that there is none where the task and the line end
+abbrev pub nextBy : Result (Option Mark) LineFault → List Mark → Option (Option Act)
+nextBy (Ok None) ms = None
+nextBy (Ok (Some opening)) ms = mapped Some (stepIn ms)
+nextBy (Ok (Some closing)) ms = cond (isOver ms) (Some None) None
+nextBy (Ok (Some (word w))) ms = None
+nextBy (Ok (Some (number w))) ms = None
+nextBy (Ok (Some stray)) ms = None
+nextBy (Err e) ms = None
+
+-- the next step of a task, or that there is none where the task and the line end
 abbrev pub nextIn : List Mark → Option (Option Act)
-nextIn [] = None
-nextIn (opening ∷ ms) = mapped Some (stepIn ms)
-nextIn (closing ∷ ms) = cond (isOver ms) (Some None) None
-nextIn (word w ∷ ms) = None
-nextIn (number w ∷ ms) = None
-nextIn (stray ∷ ms) = None
+nextIn ms = nextBy (first ms) (later ms)
+
+-- what is left after the next step, whose first token is given
+abbrev pub afterFirst : Result (Option Mark) LineFault → List Mark → List Mark
+afterFirst (Ok None) ms = ms
+afterFirst (Ok (Some opening)) ms = afterStep ms
+afterFirst (Ok (Some closing)) ms = later ms
+afterFirst (Ok (Some (word w))) ms = ms
+afterFirst (Ok (Some (number w))) ms = ms
+afterFirst (Ok (Some stray)) ms = ms
+afterFirst (Err e) ms = ms
 
 -- what is left after the next step
 abbrev pub afterNext : List Mark → List Mark
-afterNext ms = afterStep (later ms)
+afterNext ms = afterFirst (first ms) (later ms)
 
 -- the acts that were read, before those that the tokens still say
 abbrev pub readBefore : List Act → List Mark → Option (List Act)

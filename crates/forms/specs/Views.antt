@@ -10,6 +10,9 @@ use Rattle.std.specs.declared.result.Result.the-variants.{Ok, Err}
 use Rattle.std.specs.Of.Vec.{vec-items}
 use Rattle.std.specs.Options.{mapped}
 use Rattle.tokens.specs.declared.token.LineFault.{LineFault}
+use Rattle.tokens.specs.declared.token.Token.{Token}
+use Rattle.tokens.specs.Cursor.{markOf}
+use Rattle.tokens.specs.Tokens.{Mark}
 use Rattle.forms.specs.declared.fault.FormFault.{FormFault}
 use Rattle.forms.specs.declared.fault.FormFault.the-variants.{NoForm, Memory}
 use Rattle.forms.specs.declared.form.Form.{Form}
@@ -51,6 +54,11 @@ saysOf (form.Task t) = taskSays t
 abbrev pub worded : Result (RefT (List ℕ)) LineFault → Result (List ℕ) LineFault
 worded (Ok w) = Ok (w .now)
 worded (Err e) = Err e
+
+-- an argument, none, or a fault, as a mark, none, or a fault
+abbrev pub argued : Result (Option Token) LineFault → Result (Option Mark) LineFault
+argued (Ok o) = Ok (mapped markOf o)
+argued (Err e) = Err e
 
 -- a step or a fault, as an act or a fault
 abbrev pub acted : Result Step LineFault → Result Act LineFault

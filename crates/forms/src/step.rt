@@ -1,13 +1,12 @@
 // How a step is read.
 ghost use mathlib.Core.Path.{_≡_};
-ghost use Rattle.std.specs.Options.{Cases, mapped, okOr};
-ghost use Rattle.std.specs.Vec.{made};
-ghost use Rattle.tokens.specs.Cursor.{ahead, heard, later, markOf};
+ghost use Rattle.std.specs.Options.{mapped, okOr};
+ghost use Rattle.tokens.specs.Cursor.{ahead, later, markOf};
 ghost use Rattle.tokens.specs.Numbers.{naturalOf, integerOf};
 ghost use Rattle.tokens.specs.declared.token.LineFault.the-variants.{NoForm};
 ghost use Rattle.forms.specs.Forms.{nameIn, digitsIn, bind, bareAct, actWith};
 ghost use Rattle.forms.specs.Steps.{actBy, endsStep, argumentIn, afterArgument, stepIn, afterStep, nextIn, afterNext};
-ghost use Rattle.forms.specs.Views.{acted, stepped, worded};
+ghost use Rattle.forms.specs.Views.{acted, argued, stepped, worded};
 use crate::form::Step;
 use tokens::cursor::Tokens;
 use tokens::number::read_i32;
@@ -125,8 +124,8 @@ fn ends_step(tokens: &mut Tokens<'_>) -> bool
 
 // The argument of a step, or none, up to the bracket that closes it.
 fn read_argument<'a>(tokens: &mut Tokens<'a>) -> Result<Option<Token<'a>>, LineFault>
-    ensures answer { λ r. ⌜ heard r ≡ okOr (argumentIn (ahead (now (tokens .entry)))) NoForm ⌝ }
-    ensures state { λ r. ⌜ made r (λ _. ahead (now (tokens .exit)) ≡ afterArgument (ahead (now (tokens .entry)))) ⌝ }
+    ensures answer { λ r. ⌜ argued r ≡ okOr (argumentIn (ahead (now (tokens .entry)))) NoForm ⌝ }
+    ensures state { λ _. ⌜ ahead (now (tokens .exit)) ≡ afterArgument (ahead (now (tokens .entry))) ⌝ }
 {
     let Some(token) = tokens.next()? else {
         return Err(LineFault::NoForm);
@@ -147,7 +146,7 @@ fn read_argument<'a>(tokens: &mut Tokens<'a>) -> Result<Option<Token<'a>>, LineF
 // The step whose opening bracket was read.
 fn read_step<'a>(tokens: &mut Tokens<'a>) -> Result<Step<'a>, LineFault>
     ensures answer { λ r. ⌜ acted r ≡ okOr (stepIn (ahead (now (tokens .entry)))) NoForm ⌝ }
-    ensures state { λ r. ⌜ made r (λ _. ahead (now (tokens .exit)) ≡ afterStep (ahead (now (tokens .entry)))) ⌝ }
+    ensures state { λ _. ⌜ ahead (now (tokens .exit)) ≡ afterStep (ahead (now (tokens .entry))) ⌝ }
 {
     let Some(keyword) = tokens.word() else {
         return Err(LineFault::NoForm);
@@ -159,7 +158,7 @@ fn read_step<'a>(tokens: &mut Tokens<'a>) -> Result<Step<'a>, LineFault>
 // The next step of a task, or none where the task and the line end.
 pub fn next_step<'a>(tokens: &mut Tokens<'a>) -> Result<Option<Step<'a>>, LineFault>
     ensures answer { λ r. ⌜ stepped r ≡ okOr (nextIn (ahead (now (tokens .entry)))) NoForm ⌝ }
-    ensures state { λ r. ⌜ made r (λ o. Cases o (Unit {0}) (λ _. ahead (now (tokens .exit)) ≡ afterNext (ahead (now (tokens .entry))))) ⌝ }
+    ensures state { λ _. ⌜ ahead (now (tokens .exit)) ≡ afterNext (ahead (now (tokens .entry))) ⌝ }
 {
     match tokens.next()? {
         Some(Token::Open) => {
