@@ -6,8 +6,9 @@ use Rattle.std.specs.declared.option.Option.{Option}
 use Rattle.std.specs.declared.option.Option.the-variants.{Some, None}
 use Rattle.std.specs.declared.result.Result.{Result}
 use Rattle.std.specs.declared.result.Result.the-variants.{Ok, Err}
-use Rattle.std.specs.Options.{mapped}
+use Rattle.std.specs.Options.{mapped, okOr}
 use Rattle.tokens.specs.declared.token.LineFault.{LineFault}
+use Rattle.tokens.specs.declared.token.LineFault.the-variants.{NoForm}
 use Rattle.tokens.specs.Cursor.{first, later}
 use Rattle.tokens.specs.Expected.{firstWord}
 use Rattle.tokens.specs.Tokens.{Mark, opening, closing, word, number, stray}
@@ -59,18 +60,23 @@ afterKeyword (Some k) ms = afterArgument ms
 abbrev pub afterStep : List Mark → List Mark
 afterStep ms = afterKeyword (firstWord ms) (later ms)
 
--- the next step of a task whose next token is given, or that there is none where the task and the line end
-abbrev pub nextBy : Result (Option Mark) LineFault → List Mark → Option (Option Act)
-nextBy (Ok None) ms = None
-nextBy (Ok (Some opening)) ms = mapped Some (stepIn ms)
-nextBy (Ok (Some closing)) ms = cond (isOver ms) (Some None) None
-nextBy (Ok (Some (word w))) ms = None
-nextBy (Ok (Some (number w))) ms = None
-nextBy (Ok (Some stray)) ms = None
-nextBy (Err e) ms = None
+-- a step that was read is the next one
+abbrev pub found : Result Act LineFault → Result (Option Act) LineFault
+found (Ok a) = Ok (Some a)
+found (Err e) = Err e
 
--- the next step of a task, or that there is none where the task and the line end
-abbrev pub nextIn : List Mark → Option (Option Act)
+-- the next step of a task whose next token is given, or none where the task and the line end
+abbrev pub nextBy : Result (Option Mark) LineFault → List Mark → Result (Option Act) LineFault
+nextBy (Ok None) ms = Err NoForm
+nextBy (Ok (Some opening)) ms = found (okOr (stepIn ms) NoForm)
+nextBy (Ok (Some closing)) ms = cond (isOver ms) (Ok None) (Err NoForm)
+nextBy (Ok (Some (word w))) ms = Err NoForm
+nextBy (Ok (Some (number w))) ms = Err NoForm
+nextBy (Ok (Some stray)) ms = Err NoForm
+nextBy (Err e) ms = Err e
+
+-- the next step of a task, or none where the task and the line end
+abbrev pub nextIn : List Mark → Result (Option Act) LineFault
 nextIn ms = nextBy (first ms) (later ms)
 
 -- what is left after the next step, whose first token is given

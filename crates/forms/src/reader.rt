@@ -62,7 +62,11 @@ fn read_steps<'a>(heap: Global, tokens: &mut Tokens<'a>) -> Result<Vec<Step<'a>>
 }
 
 // The task on this line, after its keyword.
-fn read_task<'a>(heap: Global, line_number: usize, tokens: &mut Tokens<'a>) -> Result<TaskForm<'a>, FormFault>
+fn read_task<'a>(
+    heap: Global,
+    line_number: usize,
+    tokens: &mut Tokens<'a>,
+) -> Result<TaskForm<'a>, FormFault>
     ensures task { λ r. ⌜ Means taskSays (taskIn (ahead (now (tokens .entry)))) r ⌝ }
     ensures line { λ r. ⌜ made r (λ t. t .line ≡ «line_number») ⌝ }
 {
@@ -78,7 +82,12 @@ fn read_task<'a>(heap: Global, line_number: usize, tokens: &mut Tokens<'a>) -> R
 }
 
 // The form that a keyword and the tokens after it are.
-fn read_keyed<'a>(heap: Global, line_number: usize, keyword: &[u8], tokens: &mut Tokens<'a>) -> Result<Form<'a>, FormFault>
+fn read_keyed<'a>(
+    heap: Global,
+    line_number: usize,
+    keyword: &[u8],
+    tokens: &mut Tokens<'a>,
+) -> Result<Form<'a>, FormFault>
     ensures form { λ r. ⌜ Means saysOf (formBy (now (keyword .entry)) (ahead (now (tokens .entry)))) r ⌝ }
     ensures line { λ r. ⌜ made r (StandsOn «line_number») ⌝ }
 {
@@ -101,7 +110,11 @@ fn read_keyed<'a>(heap: Global, line_number: usize, keyword: &[u8], tokens: &mut
 }
 
 // The form that the tokens of a line are.
-fn read_tokens<'a>(heap: Global, line_number: usize, tokens: &mut Tokens<'a>) -> Result<Form<'a>, FormFault>
+fn read_tokens<'a>(
+    heap: Global,
+    line_number: usize,
+    tokens: &mut Tokens<'a>,
+) -> Result<Form<'a>, FormFault>
     ensures form { λ r. ⌜ Means saysOf (formIn (ahead (now (tokens .entry)))) r ⌝ }
     ensures line { λ r. ⌜ made r (StandsOn «line_number») ⌝ }
 {
@@ -115,7 +128,11 @@ fn read_tokens<'a>(heap: Global, line_number: usize, tokens: &mut Tokens<'a>) ->
 }
 
 // The form that a line is, or that it is none; a task keeps the number of the line that it stands on.
-pub fn read_form<'a>(heap: Global, line_number: usize, line: &'a [u8]) -> Result<Form<'a>, FormFault>
+pub fn read_form<'a>(
+    heap: Global,
+    line_number: usize,
+    line: &'a [u8],
+) -> Result<Form<'a>, FormFault>
     ensures form { λ r. ⌜ Means saysOf (formOf (now (line .entry))) r ⌝ }
     ensures line { λ r. ⌜ made r (StandsOn «line_number») ⌝ }
 {

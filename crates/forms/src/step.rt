@@ -157,7 +157,7 @@ fn read_step<'a>(tokens: &mut Tokens<'a>) -> Result<Step<'a>, LineFault>
 
 // The next step of a task, or none where the task and the line end.
 pub fn next_step<'a>(tokens: &mut Tokens<'a>) -> Result<Option<Step<'a>>, LineFault>
-    ensures answer { λ r. ⌜ stepped r ≡ okOr (nextIn (ahead (now (tokens .entry)))) NoForm ⌝ }
+    ensures answer { λ r. ⌜ stepped r ≡ nextIn (ahead (now (tokens .entry))) ⌝ }
     ensures state { λ _. ⌜ ahead (now (tokens .exit)) ≡ afterNext (ahead (now (tokens .entry))) ⌝ }
 {
     match tokens.next()? {
