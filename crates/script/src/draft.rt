@@ -17,6 +17,7 @@ use forms::fault::FormFault;
 use forms::form::Form;
 use forms::form::Setting;
 use forms::form::TaskForm;
+use forms::reader::read_form;
 use std::alloc::Global;
 use std::alloc::Refused;
 
@@ -141,6 +142,14 @@ impl<'a> Draft<'a> {
                 Ok(())
             }
         }
+    }
+
+    // The draft with what its next line says.
+    pub fn take_line(&mut self, heap: Global, number: usize, line: &'a [u8]) -> Result<(), DraftFault>
+        ensures { λ r. ⌜ AgreesAt number r (saidIn (now (self .exit))) (drafted number (formOf (now (line .entry))) (saidIn (now (self .entry)))) ⌝ }
+    {
+        let form = read_form(heap, number, line)?;
+        self.accept(number, form)
     }
 
     // The script that the draft is, where its names are in order.

@@ -1,4 +1,5 @@
 // Scripts: how a whole script is read.
 mod draft;
 mod names;
+pub mod read;
 pub mod script;
