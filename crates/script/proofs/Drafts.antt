@@ -1,6 +1,6 @@
 -- Lines are drafted exactly if they are lines of settings and then of tasks, within the limits. Assumes nothing.
 use mathlib.Core.Path.{_≡_, refl, sym, ap, subst, _∙_}
-use mathlib.Core.Bool.{Bool, true, false, _&&_, _||_, not, cond}
+use mathlib.Core.Bool.{Bool, true, false, _||_, not}
 use mathlib.Core.List.{List, [], _∷_, _++_, append-nil, append-assoc}
 use Prim.Native.Nat.{ℕ, suc, _+_, _<_, _≤_}
 use native.Mathlib.Omega.{arith}
@@ -255,7 +255,7 @@ drafted-task : (n : ℕ) (l : List ℕ) (t : Task) (d : Draft) → t .line ≡ n
 drafted-task n l t d e says few short =
     ap (λ o. drafted n o d) (formOf-said l (task (t .name) (t .acts)) says)
     ∙ (cond-true (hasRoom (d .tasks) (t .acts)) (Ok (withTask (record { name = t .name; acts = t .acts; line = n }) d)) (Err (at n TooMany))
-      (and-from (ltb (length (d .tasks)) mostTasks) (leb (length (t .acts)) mostSteps) (lt-ltb (length (d .tasks)) mostTasks few) (le-leb (length (t .acts)) mostSteps short))
+    (and-from (ltb (length (d .tasks)) mostTasks) (leb (length (t .acts)) mostSteps) (lt-ltb (length (d .tasks)) mostTasks few) (le-leb (length (t .acts)) mostSteps short))
     ∙ ap (λ k. Ok (withTask (record { name = t .name; acts = t .acts; line = k }) d)) (sym e))
 
 -- lines that say tasks, within the limits, are drafted as these

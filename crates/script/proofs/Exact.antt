@@ -1,7 +1,7 @@
 -- Bytes are read as a plan exactly if they say it and it is within the limits. Assumes nothing.
 use mathlib.Core.Path.{_≡_, refl, sym, ap, ap₂, subst, _∙_}
 use mathlib.Core.Bool.{Bool, true, false, _||_, cond}
-use mathlib.Core.List.{List, [], _∷_, _++_}
+use mathlib.Core.List.{List, [], _++_}
 use Prim.Native.Nat.{ℕ, _+_, _≤_}
 use native.Mathlib.Omega.{arith}
 use lib.Chars.{codes}
@@ -17,13 +17,13 @@ use Rattle.script.specs.declared.fault.Fault.{Fault}
 use Rattle.script.specs.declared.fault.Reason.the-variants.{TooLong, Name}
 use Rattle.script.specs.declared.form.Setting.{Setting}
 use Rattle.script.specs.Faults.{at}
-use Rattle.script.specs.Lines.{Text, textOf, bytesOf}
+use Rattle.script.specs.Lines.{textOf, bytesOf}
 use Rattle.script.specs.Meaning.{Task, Plan}
 use Rattle.script.specs.Reading.{mostBytes, mostTasks, Draft, blank, draftOf, namesOf, isAmong, misnamed, planOf, byName, planned, told, reading, andThen}
-use Rattle.script.specs.Reads.{cycleIn, startIn, timeoutIn, catchIn, Follows, NamesStand, FewSteps, Reads, Within, Exact}
+use Rattle.script.specs.Reads.{cycleIn, startIn, timeoutIn, catchIn, Follows, NamesStand, Reads, Within, Exact}
 use Rattle.script.proofs.Breaks.{noBreaks-append, bytesOf-textOf, textOf-bytesOf, textOf-unbroken}
-use Rattle.script.proofs.Cases.{err≢ok, ok-same, cond-ok, andThen-ok}
-use Rattle.script.proofs.Drafts.{withTasks, withSettings, Tasked, Settled, settled, draftOf-tasks, draftOf-settings, settings-unbroken, tasks-unbroken}
+use Rattle.script.proofs.Cases.{err≢ok, cond-ok, andThen-ok}
+use Rattle.script.proofs.Drafts.{withTasks, withSettings, Settled, settled, draftOf-tasks, draftOf-settings, settings-unbroken, tasks-unbroken}
 use Rattle.script.proofs.Naming.{misnamed-none, none-misnamed}
 
 -- the draft that has these settings and tasks
@@ -70,8 +70,8 @@ short-enough false r p h = (refl, h)
 reads-drafted : (bs : List ℕ) (d : Draft) → length bs ≤ mostBytes → Settled 1 blank (textOf bs .lines) (textOf bs .rest) d → NamesStand (d .tasks) → Reads bs (planOf d) × Within bs (planOf d)
 reads-drafted bs d short s names =
     let t = s .then in
-    subst (λ x. Reads bs (planOf x) × Within bs (planOf x)) (sym (t .is))
-    ( record {
+    subst (λ x. Reads bs (planOf x) × Within bs (planOf x)) (sym (t .is)) (
+      record {
         settings = s .settings;
         heads = s .heads;
         bodies = s .bodies;
@@ -81,11 +81,9 @@ reads-drafted bs d short s names =
         once = s .once;
         follows = follows-drawn (s .settings) (t .tasks);
         names = subst (λ x. NamesStand (x .tasks)) (t .is) names;
-      }
-    , (short, subst (λ k. k ≤ mostTasks) (zero-more (length (t .tasks))) (t .room), t .few))
-  where
-    zero-more : (n : ℕ) → 0 + n ≡ n
-    zero-more n = omega arith
+      },
+      (short, omega (arith, t .room), t .few),
+    )
 
 reading-reads : (bs : List ℕ) (p : Plan) → reading bs ≡ Ok p → Reads bs p × Within bs p
 reading-reads bs p h =
@@ -100,7 +98,7 @@ pub textOf-reads : (bs : List ℕ) (p : Plan) (r : Reads bs p) → textOf bs ≡
 textOf-reads bs p r =
     ap textOf (r .bytes)
     ∙ textOf-bytesOf (r .heads ++ r .bodies)
-      (noBreaks-append (r .heads) (r .bodies) (settings-unbroken (r .heads) (r .settings) (r .says-settings)) (tasks-unbroken (r .bodies) (length (r .heads) + 1) (p .tasks) (r .says-tasks)))
+    (noBreaks-append (r .heads) (r .bodies) (settings-unbroken (r .heads) (r .settings) (r .says-settings)) (tasks-unbroken (r .bodies) (length (r .heads) + 1) (p .tasks) (r .says-tasks)))
 
 draftOf-reads : (bs : List ℕ) (p : Plan) (r : Reads bs p) → Within bs p → draftOf 1 blank (r .heads ++ r .bodies) [] ≡ Ok (drawn (r .settings) (p .tasks))
 draftOf-reads bs p r within =
