@@ -1,7 +1,7 @@
 -- Bytes are read as a plan exactly if they say it and it is within the limits. Assumes nothing.
 use mathlib.Core.Path.{_≡_, refl, sym, ap, ap₂, subst, _∙_}
 use mathlib.Core.Bool.{Bool, true, false, _||_, cond}
-use mathlib.Core.List.{List, [], _∷_, _++_}
+use mathlib.Core.List.{List, [], _++_}
 use Prim.Native.Nat.{ℕ, _+_, _≤_}
 use native.Mathlib.Omega.{arith}
 use lib.Chars.{codes}
@@ -17,13 +17,13 @@ use Rattle.faults.specs.declared.fault.Fault.{Fault}
 use Rattle.faults.specs.declared.fault.Reason.the-variants.{TooLong, Name}
 use Rattle.forms.specs.declared.form.Setting.{Setting}
 use Rattle.faults.specs.Faults.{at}
-use Rattle.lines.specs.Lines.{Text, textOf, bytesOf}
+use Rattle.lines.specs.Lines.{textOf, bytesOf}
 use Rattle.forms.specs.Meaning.{Task, Plan}
 use Rattle.grammar.specs.Reading.{mostBytes, mostTasks, Draft, blank, draftOf, namesOf, isAmong, misnamed, planOf, byName, planned, told, reading, andThen}
-use Rattle.grammar.specs.Reads.{cycleIn, startIn, timeoutIn, catchIn, Follows, NamesStand, FewSteps, Reads, Within, Exact}
+use Rattle.grammar.specs.Reads.{cycleIn, startIn, timeoutIn, catchIn, Follows, NamesStand, Reads, Within, Exact}
 use Rattle.grammar.proofs.Breaks.{noBreaks-append, bytesOf-textOf, textOf-bytesOf, textOf-unbroken}
-use Rattle.grammar.proofs.Cases.{err≢ok, ok-same, cond-ok, andThen-ok}
-use Rattle.grammar.proofs.Drafts.{withTasks, withSettings, Tasked, Settled, settled, draftOf-tasks, draftOf-settings, settings-unbroken, tasks-unbroken}
+use Rattle.grammar.proofs.Cases.{err≢ok, cond-ok, andThen-ok}
+use Rattle.grammar.proofs.Drafts.{withTasks, withSettings, Settled, settled, draftOf-tasks, draftOf-settings, settings-unbroken, tasks-unbroken}
 use Rattle.grammar.proofs.Naming.{misnamed-none, none-misnamed}
 
 -- the draft that has these settings and tasks
@@ -82,11 +82,8 @@ reads-drafted bs d short s names =
         follows = follows-drawn (s .settings) (t .tasks);
         names = subst (λ x. NamesStand (x .tasks)) (t .is) names;
       },
-      (short, subst (λ k. k ≤ mostTasks) (zero-more (length (t .tasks))) (t .room), t .few),
+      (short, omega (arith, t .room), t .few),
     )
-  where
-    zero-more : (n : ℕ) → 0 + n ≡ n
-    zero-more n = omega arith
 
 reading-reads : (bs : List ℕ) (p : Plan) → reading bs ≡ Ok p → Reads bs p × Within bs p
 reading-reads bs p h =

@@ -1,7 +1,7 @@
 -- Names are found in order exactly if they are distinct and each one that is used is a task's. Assumes nothing.
-use mathlib.Core.Path.{_≡_, refl, sym, ap, _∙_}
-use mathlib.Core.Logic.{_⊎_, inl, inr, ⊎-elim}
-use mathlib.Core.Bool.{Bool, true, false, _&&_, _||_, not, cond}
+use mathlib.Core.Path.{_≡_, refl, sym, _∙_}
+use mathlib.Core.Logic.{⊎-elim}
+use mathlib.Core.Bool.{Bool, true, false, not, cond}
 use mathlib.Core.List.{List, [], _∷_, _++_}
 use Prim.Native.Nat.{ℕ}
 use Rattle.std.specs.declared.option.Option.{Option}
@@ -9,7 +9,7 @@ use Rattle.std.specs.declared.option.Option.the-variants.{Some, None}
 use Rattle.std.specs.shelf.Text.{sameBytes}
 use Rattle.std.proofs.shelf.Equals.{sameBytes-decides}
 use Rattle.std.proofs.shelf.Tests.{both-ways, cases-bool, not-true, not-from-false, and-parts, and-from, or-parts, or-from, cond-true}
-use Rattle.forms.specs.Meaning.{Act, Task}
+use Rattle.forms.specs.Meaning.{Task}
 use Rattle.grammar.specs.Reading.{isAmong, namesOf, allKnown, isNamed, misnamed}
 use Rattle.grammar.specs.Reads.{Distinct, AllKnown}
 use Rattle.grammar.proofs.Cases.{none≢some}

@@ -9,7 +9,7 @@ use Rattle.std.specs.declared.option.Option.the-variants.{Some, None}
 use Rattle.forms.specs.declared.form.Setting.{Setting}
 use Rattle.forms.specs.Forms.{formOf}
 use Rattle.lines.specs.Lines.{Text, textOf}
-use Rattle.forms.specs.Meaning.{Act, Task, Plan, Says, setting, task}
+use Rattle.forms.specs.Meaning.{Task, Plan, Says, setting, task}
 use Rattle.grammar.specs.Reading.{planOf}
 use Rattle.grammar.specs.Reads.{SettingLines, TaskLines, Reads, OneReading}
 use Rattle.grammar.proofs.Exact.{drawn, planOf-drawn, textOf-reads}
@@ -69,21 +69,21 @@ tasksOf-bodies (l ∷ bodies) n (t ∷ ts) h =
     ap₂ (taskBefore n) (formOf-said l (task (t .name) (t .acts)) (h .1)) (tasksOf-bodies bodies (n + 1) ts (h .2))
     ∙ ap (λ k. record { name = t .name; acts = t .acts; line = k } ∷ ts) (sym (h .0))
 
+settingsOf-reads : (bs : List ℕ) (p : Plan) (r : Reads bs p) → settingsOf (r .heads ++ r .bodies) ≡ r .settings
+settingsOf-reads bs p r =
+    settingsOf-heads (r .heads) (r .settings) (r .bodies) (r .says-settings)
+    ∙ (ap (λ x. r .settings ++ x) (settingsOf-bodies (r .bodies) (length (r .heads) + 1) (p .tasks) (r .says-tasks)) ∙ append-nil (r .settings))
+
+tasksOf-reads : (bs : List ℕ) (p : Plan) (r : Reads bs p) → tasksOf 1 (r .heads ++ r .bodies) ≡ p .tasks
+tasksOf-reads bs p r =
+    tasksOf-heads (r .heads) (r .settings) (r .bodies) 1 (r .says-settings) ∙ tasksOf-bodies (r .bodies) (length (r .heads) + 1) (p .tasks) (r .says-tasks)
+
 -- a plan that the bytes say is the one that their lines show
 plan-shown : (bs : List ℕ) (p : Plan) → Reads bs p → planOf (drawn (settingsOf (textOf bs .lines)) (tasksOf 1 (textOf bs .lines))) ≡ p
 plan-shown bs p r =
     ap (λ (t : Text). planOf (drawn (settingsOf (t .lines)) (tasksOf 1 (t .lines)))) (textOf-reads bs p r)
-    ∙ (ap₂ (λ ss ts. planOf (drawn ss ts)) (settings-are bs p r) (tasks-are bs p r)
+    ∙ (ap₂ (λ ss ts. planOf (drawn ss ts)) (settingsOf-reads bs p r) (tasksOf-reads bs p r)
     ∙ planOf-drawn p (r .settings) (r .follows))
-  where
-    settings-are : (bs : List ℕ) (p : Plan) (r : Reads bs p) → settingsOf (r .heads ++ r .bodies) ≡ r .settings
-    settings-are bs p r =
-        settingsOf-heads (r .heads) (r .settings) (r .bodies) (r .says-settings)
-        ∙ (ap (λ x. r .settings ++ x) (settingsOf-bodies (r .bodies) (length (r .heads) + 1) (p .tasks) (r .says-tasks)) ∙ append-nil (r .settings))
-
-    tasks-are : (bs : List ℕ) (p : Plan) (r : Reads bs p) → tasksOf 1 (r .heads ++ r .bodies) ≡ p .tasks
-    tasks-are bs p r =
-        tasksOf-heads (r .heads) (r .settings) (r .bodies) 1 (r .says-settings) ∙ tasksOf-bodies (r .bodies) (length (r .heads) + 1) (p .tasks) (r .says-tasks)
 
 pub one-reading : (bs : List ℕ) → OneReading bs
 one-reading bs p q r s = sym (plan-shown bs p r) ∙ plan-shown bs q s

@@ -1,6 +1,6 @@
 -- A line is read as a form exactly if it says one. Assumes nothing.
 use mathlib.Core.Path.{_≡_, refl, sym, ap, ap₂, subst, _∙_}
-use mathlib.Core.Bool.{Bool, true, false, _&&_, not, cond}
+use mathlib.Core.Bool.{Bool, true, false, cond}
 use mathlib.Core.List.{List, [], _∷_, _++_}
 use Prim.Native.Nat.{ℕ}
 use lib.Chars.{codes}
@@ -9,14 +9,14 @@ use Rattle.std.specs.declared.option.Option.the-variants.{Some, None}
 use Rattle.std.specs.Options.{mapped}
 use Rattle.std.proofs.shelf.Tests.{and-parts, false≢true}
 use Rattle.tokens.specs.Numbers.{naturalOf}
-use Rattle.tokens.specs.Tokens.{Mark, opening, closing, word, number, stray, named, isToken, allTokens, tokensOf}
+use Rattle.tokens.specs.Tokens.{Mark, opening, closing, word, number, stray, isToken, allTokens, tokensOf}
 use Rattle.tokens.proofs.Spelling.{tokens-spelled}
 use Rattle.tokens.proofs.Strays.{noStray, allTokens-line}
 use Rattle.forms.specs.declared.form.Setting.{Setting}
 use Rattle.forms.specs.declared.form.Setting.the-variants.{Cycle, Start, Timeout, Catch}
 use Rattle.forms.specs.Forms.{nameIn, digitsIn, bind, between, isOver, actsIn, isClosed, timeIn, taskIn, formBy, formAfter, formIn, formOf}
-use Rattle.forms.specs.Meaning.{Act, Task, Says, setting, task}
-use Rattle.grammar.specs.Reads.{Writes, withNumber, SaysActs, SaysSetting, SaysTask, noBreak, Line}
+use Rattle.forms.specs.Meaning.{Says, setting, task}
+use Rattle.grammar.specs.Reads.{Writes, withNumber, SaysSetting, SaysTask, noBreak, Line}
 use Rattle.grammar.proofs.Cases.{none≢some, some-same, cond-some, mapped-some, bind-some, by-keyword}
 use Rattle.grammar.proofs.Written.{naturalOf-writes, writes-naturalOf}
 use Rattle.grammar.proofs.Acts.{nameIn-named, named-nameIn, actsIn-closes, actsIn-closed, isOver-unstray, actsIn-between-unstray}

@@ -1,19 +1,18 @@
 -- A word is read as a number exactly if it writes one that fits. Assumes nothing.
 use mathlib.Core.Path.{_≡_, refl, sym, ap, subst, _∙_}
-use mathlib.Core.Bool.{Bool, true, false, _&&_, cond}
-use mathlib.Core.List.{List, [], _∷_}
-use Prim.Native.Nat.{ℕ, _+_, _-_, _^_, _<_, _≤_}
+use mathlib.Core.Bool.{Bool, true, false, _&&_}
+use mathlib.Core.List.{List}
+use Prim.Native.Nat.{ℕ, _-_, _^_, _<_, _≤_}
 use native.Mathlib.Omega.{arith}
 use lib.Dec.{leb}
 use lib.IntN.{ℤ, pos, negℤ}
 use lib.Pow.{pow-pos}
 use lib.Signed.{_≤ℤ_, _<ℤ_}
-use Rattle.std.specs.declared.option.Option.{Option}
 use Rattle.std.specs.declared.option.Option.the-variants.{Some, None}
 use Rattle.std.specs.Options.{mapped}
 use Rattle.std.proofs.shelf.Signed.{ints}
 use Rattle.std.proofs.shelf.Tests.{leb-true, le-leb, and-parts, and-from, cond-true}
-use Rattle.tokens.specs.Numbers.{isNumeral, value, isNumber, hasMinus, afterMinus, withSign, farthest, numeralUpTo, naturalOf, integerOf}
+use Rattle.tokens.specs.Numbers.{isNumeral, value, hasMinus, afterMinus, withSign, farthest, numeralUpTo, naturalOf, integerOf}
 use Rattle.grammar.specs.Reads.{Writes, WritesSigned}
 use Rattle.grammar.proofs.Cases.{cond-some, mapped-some}
 
