@@ -4,7 +4,7 @@ ghost use Prim.Native.Nat.{_≤_};
 ghost use lib.ListN.{length};
 ghost use Rattle.lines.specs.Lines.{textOf};
 ghost use Rattle.grammar.specs.Reading.{blank, draftOf, reading};
-ghost use Rattle.grammar.specs.Reads.{Exact, OneReading, Respelled, Settled};
+ghost use Rattle.grammar.specs.Reads.{Exact, Grows, OneReading, Respelled, Settled};
 ghost use Rattle.script.specs.Drafts.{saidIn};
 ghost use Rattle.script.specs.Views.{scriptOf, Agrees};
 use crate::draft::Draft;
@@ -63,6 +63,7 @@ pub fn read<'a>(heap: Global, bytes: &'a [u8]) -> Result<Script<'a>, ReadFault>
     ensures once { λ _. ⌜ OneReading (now (bytes .entry)) ⌝ }
     ensures respelled { λ _. ⌜ Respelled (now (bytes .entry)) ⌝ }
     ensures settled { λ _. ⌜ Settled (now (bytes .entry)) ⌝ }
+    ensures grows { λ _. ⌜ Grows (now (bytes .entry)) ⌝ }
 {
     read_plan(heap, bytes)
 }

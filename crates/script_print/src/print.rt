@@ -4,7 +4,8 @@ ghost use mathlib.Core.List.{map, _++_};
 ghost use Rattle.std.specs.Of.Vec.{vec-items};
 ghost use Rattle.std.specs.Vec.{made};
 ghost use Rattle.forms.specs.Views.{actOf, taskOf};
-ghost use Rattle.grammar.specs.Spelled.{spelled, spelledAct, spelledActs, spelledTask, spelledTasks, spelledTimeout, spelledCatch};
+ghost use Rattle.grammar.specs.Spellable.{ReadBack};
+ghost use Rattle.grammar.specs.Spelled.{placed, spelled, spelledAct, spelledActs, spelledTask, spelledTasks, spelledTimeout, spelledCatch};
 ghost use Rattle.script.specs.Views.{scriptOf};
 ghost use Rattle.script_print.specs.Grown.{Grown};
 use crate::text::put_name;
@@ -89,11 +90,19 @@ fn put_script(heap: Global, out: &mut Vec<u8>, script: &Script<'_>) -> Result<()
     put_tasks(heap, out, script.tasks.as_slice())
 }
 
-// The bytes of the script in its canonical spelling; names are any bytes, so they need be no text.
-pub fn print(heap: Global, script: &Script<'_>) -> Result<Vec<u8>, AllocError>
-    ensures spelled { λ r. ⌜ made r (λ v. vec-items v ≡ spelled (scriptOf (now (script .entry)))) ⌝ }
+fn printed(heap: Global, script: &Script<'_>) -> Result<Vec<u8>, AllocError>
+    ensures { λ r. ⌜ made r (λ v. vec-items v ≡ spelled (scriptOf (now (script .entry)))) ⌝ }
 {
     let mut out = Vec::new(heap);
     put_script(heap, &mut out, script)?;
     Ok(out)
+}
+
+// The bytes of the script in its canonical spelling; names are any bytes, so the bytes need be no text.
+pub fn print(heap: Global, script: &Script<'_>) -> Result<Vec<u8>, AllocError>
+    ensures spelled { λ r. ⌜ made r (λ v. vec-items v ≡ spelled (scriptOf (now (script .entry)))) ⌝ }
+    ensures readable { λ _. ⌜ ReadBack (scriptOf (now (script .entry))) ⌝ }
+    ensures settled { λ _. ⌜ spelled (placed (scriptOf (now (script .entry)))) ≡ spelled (scriptOf (now (script .entry))) ⌝ }
+{
+    printed(heap, script)
 }

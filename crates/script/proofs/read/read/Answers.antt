@@ -1,6 +1,6 @@
 use Rattle.grammar.proofs.Exact.{exact}
 use Rattle.grammar.proofs.OnePlan.{one-reading}
-use Rattle.grammar.proofs.RoundTrip.{respelled, settled}
+use Rattle.grammar.proofs.RoundTrip.{respelled, settled, grows}
 use Rattle.script.proofs.read.read.Needs as need
 
 pub returns : need.returns
@@ -12,4 +12,5 @@ returns c =
       once = one-reading bytes;
       respelled = respelled bytes;
       settled = settled bytes;
+      grows = grows bytes;
     }
