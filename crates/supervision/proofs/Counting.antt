@@ -1,4 +1,4 @@
--- A cascade gives each task as often as a node where it is seated comes to be aborted.
+-- A cascade gives each task whose node comes to be aborted, and as often as that happens.
 use mathlib.Core.Path.{_≡_, refl, sym, ap, subst, _∙_}
 use mathlib.Core.Bool.{Bool, true, false, cond}
 use mathlib.Core.List.{List, [], _∷_, _++_, reverse}
@@ -7,20 +7,23 @@ use Prim.Native.Nat.{ℕ, zero, suc, _+_}
 use native.Mathlib.Omega.{arith}
 use lib.Dec.{eqb}
 use lib.ListN.{length}
-use Rattle.std.proofs.shelf.Tests.{cond-both, cases-bool, eqb-true}
+use Rattle.std.proofs.shelf.Tests.{cond-both, cases-bool, cases-eq, eqb-true, both-ways}
 use Rattle.std.specs.Vec.{listOf}
 use Rattle.std.specs.declared.option.Option.{Option}
 use Rattle.std.specs.declared.option.Option.the-variants.{Some, None}
 use Rattle.keyed.specs.Keyed.{ordered, find, change}
 use Rattle.keyed.specs.Choices.{holds}
-use Rattle.keyed.specs.Members.{times}
+use Rattle.keyed.specs.Members.{In, times}
 use Rattle.keyed.proofs.Counts.{times-append}
-use Rattle.keyed.proofs.Finds.{some-not-none}
+use Rattle.keyed.proofs.Answers.{holds-is}
+use Rattle.keyed.proofs.Finds.{some-not-none, same-some, find-change-other}
+use Rattle.keyed.proofs.Members.{in-left, in-right}
 use Rattle.keyed.proofs.Orders.{ordered-first, ordered-change, change-low}
 use Rattle.nodes.specs.declared.Node.{Node}
 use Rattle.nodes.specs.Node.{serial-of, seats}
 use Rattle.lineage.specs.Family.{Family, node-at}
 use Rattle.lineage.specs.Cascade.{Step, condemned, passed, struck, step-at, step, walk, cascaded}
+use Rattle.supervision.specs.Sound.{Lives}
 use Rattle.supervision.specs.Laws.{struck-with, Cascaded}
 use Rattle.supervision.proofs.Whole.{Whole}
 use Rattle.supervision.proofs.Walking.{walked, walked-whole, under-aborted}
@@ -68,6 +71,28 @@ walk-counted k (suc f) (s ∷ st) F h =
     let rest = walk-counted k f (reverse (step s F .below) ++ st) (step s F .after) (one .order) in
     omega (arith, one .count, rest, times-append k (step s F .marks) (walk f (reverse (step s F .below) ++ st) (step s F .after) .1))
 
+-- a step at s gives the task seated at t, or leaves the node t as it was
+step-gives : (task s t : ℕ) (o : Option Node) (F : Family) (n : Node) → node-at s F ≡ o → Lives F t n → seats task n ≡ true → In task (step-at s o F .marks) ⊎ Lives (step-at s o F .after) t n
+step-gives task s t None F n e l has = inr l
+step-gives task s t (Some m) F n e l has =
+    cond-both (m .aborted) (passed F) (struck s m F) (λ (v : Step). In task (v .marks) ⊎ Lives (v .after) t n)
+    (λ _. inr l)
+    (λ _. elim (cases-eq t s) [
+        inl same ↦
+          let is : m ≡ n = same-some (subst (λ z. node-at z F ≡ Some m) (sym same) e) l in
+          let seat : m .task ≡ Some task = ap (λ (x : Node). x .task) is ∙ holds-is task (n .task) has in
+          inl (subst (λ (x : Option ℕ). In task (listOf x)) (sym seat) (inl refl))
+      | inr apart ↦ inr (find-change-other serial-of condemned (λ _. refl) s t (F .nodes) apart ∙ l)
+      ])
+
+walk-gives : (task k : ℕ) (st : List ℕ) (F : Family) (t : ℕ) (n : Node) → Lives F t n → n .aborted ≡ false → seats task n ≡ true → (n′ : Node) → Lives (walk k st F .0) t n′ → n′ .aborted ≡ true → In task (walk k st F .1)
+walk-gives task zero st F t n l q has n′ l′ a = absurd (both-ways (n .aborted) q (ap (λ (x : Node). x .aborted) (same-some l l′) ∙ a))
+walk-gives task (suc k) [] F t n l q has n′ l′ a = absurd (both-ways (n .aborted) q (ap (λ (x : Node). x .aborted) (same-some l l′) ∙ a))
+walk-gives task (suc k) (s ∷ st) F t n l q has n′ l′ a = elim (step-gives task s t (node-at s F) F n refl l has) [
+      inl i ↦ in-left task (step s F .marks) (walk k (reverse (step s F .below) ++ st) (step s F .after) .1) i
+    | inr j ↦ in-right task (step s F .marks) (walk k (reverse (step s F .below) ++ st) (step s F .after) .1) (walk-gives task k (reverse (step s F .below) ++ st) (step s F .after) t n j q has n′ l′ a)
+    ]
+
 pub cascade-law : (top : ℕ) (F : Family) → Whole F → Cascaded F (cascaded top F .0) top (cascaded top F .1)
 cascade-law top F ok =
     let w = walked top F ok in
@@ -75,6 +100,9 @@ cascade-law top F ok =
       all-under = λ t n u l. under-aborted F (cascaded top F .0) top w u n l;
       only-under = λ t n l a. (w .came t n l .was, w .came t n l .lived, w .came t n l .aborts a);
       all-live = λ t m l. (w .goes t m l .is, w .goes t m l .lives, w .goes t m l .stays);
+      gives = λ task t n u l q has.
+        let now′ = w .goes t n l in
+        walk-gives task (1 + length (F .links)) (top ∷ []) F t n l q has (now′ .is) (now′ .lives) (under-aborted F (cascaded top F .0) top w u (now′ .is) (now′ .lives));
       given-once = λ k. walk-counted k (1 + length (F .links)) (top ∷ []) F (ok .solid .frame .order);
     }
 
