@@ -22,8 +22,11 @@ use std::alloc::Global;
 use std::alloc::Refused;
 
 const MOST_TASKS: usize = 16;
+
 const MOST_STEPS: usize = 32;
+
 const DEFAULT_CYCLE_NS: u64 = 1_000_000;
+
 const DEFAULT_START_NS: u64 = 0;
 
 // Why a line is not taken; which line it is, the reader of the whole script knows.
@@ -145,7 +148,12 @@ impl<'a> Draft<'a> {
     }
 
     // The draft with what its next line says.
-    pub fn take_line(&mut self, heap: Global, number: usize, line: &'a [u8]) -> Result<(), DraftFault>
+    pub fn take_line(
+        &mut self,
+        heap: Global,
+        number: usize,
+        line: &'a [u8],
+    ) -> Result<(), DraftFault>
         ensures { λ r. ⌜ AgreesAt number r (saidIn (now (self .exit))) (drafted number (formOf (now (line .entry))) (saidIn (now (self .entry)))) ⌝ }
     {
         let form = read_form(heap, number, line)?;
@@ -158,10 +166,16 @@ impl<'a> Draft<'a> {
     {
         let tasks = self.tasks.as_slice();
         if let Some(line) = misnamed_line(tasks) {
-            return Err(Fault { line, reason: Reason::Name });
+            return Err(Fault {
+                line,
+                reason: Reason::Name,
+            });
         }
         if !is_among(b"root", tasks) {
-            return Err(Fault { line: 0, reason: Reason::Name });
+            return Err(Fault {
+                line: 0,
+                reason: Reason::Name,
+            });
         }
         Ok(Script {
             cycle_ns: self.cycle_ns.unwrap_or(DEFAULT_CYCLE_NS),

@@ -36,7 +36,10 @@ fn read_lines<'a>(heap: Global, bytes: &'a [u8]) -> Result<Draft<'a>, ReadFault>
         }
     }
     if !rest.is_empty() {
-        return Err(ReadFault::Refused(Fault { line: number, reason: Reason::NoForm }));
+        return Err(ReadFault::Refused(Fault {
+            line: number,
+            reason: Reason::NoForm,
+        }));
     }
     Ok(draft)
 }

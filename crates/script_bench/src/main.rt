@@ -24,7 +24,10 @@ fn main(rt: LibcRuntime) -> io::Result<()> {
     rt.stdin().read_to_end(&mut bytes)?;
     let length = bytes.len();
     match accepted(rt.alloc(), bytes.as_slice()) {
-        Ok(count) => println!(rt, "{count} of {READINGS} readings of {length} bytes accepted"),
+        Ok(count) => println!(
+            rt,
+            "{count} of {READINGS} readings of {length} bytes accepted"
+        ),
         Err(_) => println!(rt, "refused"),
     }
 }

@@ -90,9 +90,15 @@ fn format(rt: &LibcRuntime) -> Result<(), Failure> {
 fn tell(rt: &LibcRuntime, failure: &Failure) -> io::Result<()> {
     match failure {
         Failure::Refused(line) => println!(rt, "{line}"),
-        Failure::Usage => eprintln!(rt, "script_fmt: at most one file; call it as: script_fmt [FILE]"),
+        Failure::Usage => eprintln!(
+            rt,
+            "script_fmt: at most one file; call it as: script_fmt [FILE]"
+        ),
         Failure::Input(error) => eprintln!(rt, "script_fmt: the script cannot be read: {error}"),
-        Failure::Output(error) => eprintln!(rt, "script_fmt: the script cannot be printed: {error}"),
+        Failure::Output(error) => eprintln!(
+            rt,
+            "script_fmt: the script cannot be printed: {error}"
+        ),
         Failure::Memory => eprintln!(rt, "script_fmt: no memory is left"),
     }
 }

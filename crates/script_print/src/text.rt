@@ -17,7 +17,13 @@ pub fn put_name(out: &mut Vec<u8>, lead: &[u8], name: &[u8], end: &[u8]) -> Resu
 }
 
 // A keyword with its bracket, a number, and what closes the form.
-pub fn put_number(heap: Global, out: &mut Vec<u8>, lead: &[u8], number: u64, end: &[u8]) -> Result<(), AllocError>
+pub fn put_number(
+    heap: Global,
+    out: &mut Vec<u8>,
+    lead: &[u8],
+    number: u64,
+    end: &[u8],
+) -> Result<(), AllocError>
     ensures { λ r. ⌜ Grown r (vec-items (now (out .entry))) (vec-items (now (out .exit))) (now (lead .entry) ++ (decimal number ++ now (end .entry))) ⌝ }
 {
     let digits = format!(heap, "{number}")?;
@@ -25,7 +31,13 @@ pub fn put_number(heap: Global, out: &mut Vec<u8>, lead: &[u8], number: u64, end
 }
 
 // A keyword with its bracket, a number that may have a sign, and what closes the form.
-pub fn put_signed(heap: Global, out: &mut Vec<u8>, lead: &[u8], number: i64, end: &[u8]) -> Result<(), AllocError>
+pub fn put_signed(
+    heap: Global,
+    out: &mut Vec<u8>,
+    lead: &[u8],
+    number: i64,
+    end: &[u8],
+) -> Result<(), AllocError>
     ensures { λ r. ⌜ Grown r (vec-items (now (out .entry))) (vec-items (now (out .exit))) (now (lead .entry) ++ (signed number ++ now (end .entry))) ⌝ }
 {
     let digits = format!(heap, "{number}")?;

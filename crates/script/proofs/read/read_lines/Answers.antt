@@ -20,9 +20,10 @@ returns-in-Err c =
 
 pub loop-line-again : need.loop-line-again
 loop-line-again c =
-    let split = c .in-Some .ensures tt in
-    (c .loop-line .inv .0 ∙ draftOf-line (c .loop-line .number) (saidIn (c .loop-line .draft)) (saidIn (c .take-line .last .self)) _ _ _ (split .cases) (c .in-Ok .ensures tt),
-    omega (arith, c .loop-line .inv .1, split .shorter))
+    let split = c .in-Some .ensures tt in (
+      c .loop-line .inv .0 ∙ draftOf-line (c .loop-line .number) (saidIn (c .loop-line .draft)) (saidIn (c .take-line .last .self)) _ _ _ (split .cases) (c .in-Ok .ensures tt),
+      omega (arith, c .loop-line .inv .1, split .shorter),
+    )
 
 pub returns-then-not-is-empty : need.returns-then-not-is-empty
 returns-then-not-is-empty c =
