@@ -24,7 +24,7 @@ endsStep (word w ∷ ms) = false
 endsStep (number w ∷ ms) = false
 endsStep (stray ∷ ms) = false
 
--- the argument that stands before the bracket which closes a step, or that there is none, if the step closes
+-- the argument before the bracket that closes a step, or that the step has none, if it closes
 abbrev pub argumentIn : List Mark → Option (Option Mark)
 argumentIn [] = None
 argumentIn (opening ∷ ms) = None
@@ -33,7 +33,7 @@ argumentIn (word w ∷ ms) = cond (endsStep ms) (Some (Some (word w))) None
 argumentIn (number w ∷ ms) = cond (endsStep ms) (Some (Some (number w))) None
 argumentIn (stray ∷ ms) = None
 
--- what is left after an argument and the bracket that closes the step
+-- what is left once an argument and the bracket that closes the step are asked for
 abbrev pub afterArgument : List Mark → List Mark
 afterArgument [] = []
 afterArgument (opening ∷ ms) = ms
@@ -51,12 +51,12 @@ actBy k (Some m) = actWith k m
 abbrev pub stepIn : List Mark → Option Act
 stepIn ms = bind (firstWord ms) (λ k. bind (argumentIn (later ms)) (actBy k))
 
--- what is left after a keyword, where one came, and the rest of its step
+-- what is left once the rest of a step is asked for, if its keyword came
 abbrev pub afterKeyword : Option (List ℕ) → List Mark → List Mark
 afterKeyword None ms = ms
 afterKeyword (Some k) ms = afterArgument ms
 
--- what is left after the step whose opening bracket was read
+-- what is left once the step whose opening bracket was read is asked for
 abbrev pub afterStep : List Mark → List Mark
 afterStep ms = afterKeyword (firstWord ms) (later ms)
 
@@ -79,7 +79,7 @@ nextBy (Err e) ms = Err e
 abbrev pub nextIn : List Mark → Result (Option Act) LineFault
 nextIn ms = nextBy (first ms) (later ms)
 
--- what is left after the next step, whose first token is given
+-- what is left once the next step, whose first token is given, is asked for
 abbrev pub afterFirst : Result (Option Mark) LineFault → List Mark → List Mark
 afterFirst (Ok None) ms = ms
 afterFirst (Ok (Some opening)) ms = afterStep ms
@@ -89,7 +89,7 @@ afterFirst (Ok (Some (number w))) ms = ms
 afterFirst (Ok (Some stray)) ms = ms
 afterFirst (Err e) ms = ms
 
--- what is left after the next step
+-- what is left once the next step is asked for
 abbrev pub afterNext : List Mark → List Mark
 afterNext ms = afterFirst (first ms) (later ms)
 

@@ -70,7 +70,7 @@ abbrev pub stepped : Result (Option Step) LineFault → Result (Option Act) Line
 stepped (Ok o) = Ok (mapped actOf o)
 stepped (Err e) = Err e
 
--- an answer has what was said, or there was nothing; want of memory tells nothing of it
+-- the answer is what was said, and no form where nothing was; want of memory tells nothing of it
 abbrev pub Means : {A B : Type 0} → (A → B) → Option B → Result A FormFault → Type 0
 Means view said (Ok x) = said ≡ Some (view x)
 Means view said (Err NoForm) = said ≡ None
