@@ -1,0 +1,4 @@
+mod Placing
+mod Finding
+pub mod Orders
+pub mod Ringing

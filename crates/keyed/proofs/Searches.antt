@@ -1,0 +1,76 @@
+-- A loop that looks for an element that passes a test.
+use mathlib.Core.Path.{_≡_, refl, sym, ap, _∙_}
+use mathlib.Core.Bool.{Bool, true, false, cond, _||_}
+use mathlib.Core.Logic.{_⊎_, inl, inr}
+use mathlib.Core.List.{List, [], _∷_}
+use Prim.Native.Nat.{ℕ, _+_, _<_, _≤_}
+use lib.ListN.{length, getD, drop}
+use Rattle.std.proofs.shelf.Lists.{at-drop-more, at-drop-all}
+use Rattle.std.proofs.shelf.Tests.{cases-bool, or-left, or-right, or-cases, or-parts, false≢true}
+use Rattle.std.specs.declared.option.Option.{Option}
+use Rattle.std.specs.declared.option.Option.the-variants.{Some, None}
+use Rattle.std.specs.Options.{mapped, isSome}
+use Rattle.keyed.specs.Members.{In, any, first}
+use Rattle.keyed.proofs.Finds.{some-not-none}
+
+-- xs is the slice that the loop goes over, ys the list that the contract speaks of, and i the place
+module _ {X : Type 0} (test : X → Bool) (xs ys : List X) (same : xs ≡ ys) (i : ℕ) (so-far : any test (drop i ys) ≡ any test ys) where
+  step : (d : X) → i < length xs → any test (drop i ys) ≡ (test (getD xs i d) || any test (drop (i + 1) ys))
+  step d h = ap (λ (l : List X). any test (drop i l)) (sym same) ∙ (at-drop-more (any test) xs i d h ∙ ap (λ (l : List X). test (getD xs i d) || any test (drop (i + 1) l)) same)
+
+  pub any-hit : (d : X) → i < length xs → test (getD xs i d) ≡ true → any test ys ≡ true
+  any-hit d h t = sym so-far ∙ (step d h ∙ ap (λ b. b || any test (drop (i + 1) ys)) t)
+
+  pub any-miss : (d : X) → i < length xs → test (getD xs i d) ≡ false → any test (drop (i + 1) ys) ≡ any test ys
+  any-miss d h t = sym (step d h ∙ ap (λ b. b || any test (drop (i + 1) ys)) t) ∙ so-far
+
+  pub any-missed : length xs ≤ i → any test ys ≡ false
+  any-missed h = sym so-far ∙ rw same at (at-drop-all (any test) xs i h)
+
+-- the same for the first element that passes
+module _ {X : Type 0} (test : X → Bool) (xs ys : List X) (same : xs ≡ ys) (i : ℕ) (so-far : first test (drop i ys) ≡ first test ys) where
+  first-step : (d : X) → i < length xs → first test (drop i ys) ≡ cond (test (getD xs i d)) (Some (getD xs i d)) (first test (drop (i + 1) ys))
+  first-step d h = ap (λ (l : List X). first test (drop i l)) (sym same) ∙ (at-drop-more (first test) xs i d h ∙ ap (λ (l : List X). cond (test (getD xs i d)) (Some (getD xs i d)) (first test (drop (i + 1) l))) same)
+
+  pub first-hit : (d : X) → i < length xs → test (getD xs i d) ≡ true → first test ys ≡ Some (getD xs i d)
+  first-hit d h t = sym so-far ∙ (first-step d h ∙ ap (λ b. cond b (Some (getD xs i d)) (first test (drop (i + 1) ys))) t)
+
+  pub first-miss : (d : X) → i < length xs → test (getD xs i d) ≡ false → first test (drop (i + 1) ys) ≡ first test ys
+  first-miss d h t = sym (first-step d h ∙ ap (λ b. cond b (Some (getD xs i d)) (first test (drop (i + 1) ys))) t) ∙ so-far
+
+  pub first-missed : length xs ≤ i → first test ys ≡ None
+  first-missed h = sym so-far ∙ rw same at (at-drop-all (first test) xs i h)
+
+-- what stands in a list and passes is seen by `any`, and the other way round
+module _ {X : Type 0} (test : X → Bool) where
+  pub any-in : (x : X) (xs : List X) → In x xs → test x ≡ true → any test xs ≡ true
+  any-in x [] h t = absurd h
+  any-in x (y ∷ ys) (inl e) t = or-left (test y) (any test ys) (ap test (sym e) ∙ t)
+  any-in x (y ∷ ys) (inr h) t = or-right (test y) (any test ys) (any-in x ys h t)
+
+  pub in-any : (xs : List X) → any test xs ≡ true → (x : X) × In x xs × (test x ≡ true)
+  in-any [] h = absurd (false≢true h)
+  in-any (y ∷ ys) h = elim (or-cases (test y) (any test ys) h) [
+    | inl t ↦ (y, inl refl, t)
+    | inr r ↦ (let g = in-any ys r in (g .0, inr (g .1), g .2))
+  ]
+
+  pub not-any : (xs : List X) → any test xs ≡ false → (x : X) → In x xs → test x ≡ false
+  not-any [] h x i = absurd i
+  not-any (y ∷ ys) h x (inl e) = ap test e ∙ or-parts (test y) (any test ys) h .0
+  not-any (y ∷ ys) h x (inr i) = not-any ys (or-parts (test y) (any test ys) h .1) x i
+
+  -- nothing passes where there is no first
+  pub first-none : (xs : List X) → first test xs ≡ None → (x : X) → In x xs → test x ≡ false
+  first-none [] h x i = absurd i
+  first-none (y ∷ ys) h x i = elim (cases-bool (test y)) [
+    | inl t ↦ (let g : Some y ≡ None = rw t at h in absurd (some-not-none g refl))
+    | inr t ↦ elim i [ inl e ↦ ap test e ∙ t | inr r ↦ first-none ys (rw t at h) x r ]
+  ]
+
+  pub first-in : (xs : List X) (x : X) → first test xs ≡ Some x → In x xs × (test x ≡ true)
+  first-in [] x h = absurd (some-not-none refl h)
+  first-in (y ∷ ys) x h = elim (cases-bool (test y)) [
+    | inl t ↦ (let is : x ≡ y = (let g = rw t at h in cc) in (inl is, ap test is ∙ t))
+    | inr t ↦ (let g = first-in ys x (rw t at h) in (inr (g .0), g .1))
+  ]

@@ -1,0 +1,4 @@
+pub mod Keyed
+pub mod Members
+pub mod Laws
+pub mod Choices

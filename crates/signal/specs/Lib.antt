@@ -1,0 +1,5 @@
+pub mod Phase
+pub mod Switch
+pub mod Complete
+pub mod Model
+pub mod Laws
