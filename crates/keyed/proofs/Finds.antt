@@ -13,7 +13,7 @@ use Rattle.std.specs.declared.option.Option.the-variants.{Some, None}
 use Rattle.std.specs.Options.{mapped}
 use Rattle.keyed.specs.Keyed.{ordered, find, known, change, without}
 use Rattle.keyed.specs.Members.{In}
-use Rattle.keyed.proofs.Orders.{ordered-first, change-low, find-low}
+use Rattle.keyed.proofs.Orders.{ordered-first, change-low, without-low, find-low}
 
 -- a list that finds something is not one that finds nothing
 pub some-not-none : {X : Type 0} {o : Option X} {x : X} → o ≡ None → o ≡ Some x → ⊥
@@ -157,3 +157,25 @@ module _ {X : Type 0} (key : X → ℕ) where
     | inl e ↦ (let is : x ≡ y = (let g = rw e at h in cc) in inl is)
     | inr e ↦ inr (find-in k ys x (rw e at h))
   ]
+
+  -- where a key finds nothing, a change by it changes nothing
+  pub change-missing : (f : X → X) (k : ℕ) (xs : List X) → find key k xs ≡ None → change key f k xs ≡ xs
+  change-missing f k [] h = refl
+  change-missing f k (y ∷ ys) h = elim (cases-bool (eqb (key y) k)) [
+    | inl e ↦ (let g : Some y ≡ None = rw e at h in absurd (some-not-none g refl))
+    | inr e ↦ rw e (ap (λ (l : List X). y ∷ l) (change-missing f k ys (rw e at h)))
+  ]
+
+  -- the record that was found, changed and put in its place, is the change by key
+  pub put-found : (f : X → X) (lo hi k : ℕ) (xs ys : List X) (x y : X) → ordered key lo hi xs ≡ true → find key k xs ≡ Some x → y ≡ f x → key (f x) ≡ key x → ys ≡ change key (λ _. y) (key y) xs → ys ≡ change key f k xs
+  put-found f lo hi k xs ys x y o h made same is =
+      is ∙ (ap (λ (z : X). change key (λ _. z) (key z) xs) made ∙ (ap (λ s. change key (λ _. f x) s xs) (same ∙ find-key k xs x h) ∙ change-found f lo hi k xs x o h))
+
+  pub length-without-found : (lo hi k : ℕ) (xs : List X) (x : X) → ordered key lo hi xs ≡ true → find key k xs ≡ Some x → suc (length (without key k xs)) ≡ length xs
+  length-without-found lo hi k [] x o h = absurd (some-not-none refl h)
+  length-without-found lo hi k (y ∷ ys) x o h =
+      let p = ordered-first key lo hi y ys o in
+      elim (cases-bool (eqb (key y) k)) [
+        | inl e ↦ rw e (ap (λ (l : List X). suc (length l)) (without-low key (suc (key y)) hi k ys (p .1) (omega (arith, eqb-true (key y) k e))))
+        | inr e ↦ rw e (ap suc (length-without-found (suc (key y)) hi k ys x (p .1) (rw e at h)))
+      ]

@@ -5,7 +5,7 @@ use mathlib.Core.List.{List, [], _∷_, _++_}
 use Prim.Native.Nat.{ℕ, zero, suc, _+_, _<_, _≤_}
 use native.Mathlib.Omega.{arith}
 use lib.Dec.{eqb, leb}
-use lib.ListN.{length, getD}
+use lib.ListN.{length, getD, set}
 use Rattle.std.proofs.shelf.Tests.{ne-eqb, eq-eqb, eqb-true, leb-true, le-leb, and-parts, and-from, or-parts, cond-both}
 use Rattle.std.specs.declared.option.Option.{Option}
 use Rattle.std.specs.declared.option.Option.the-variants.{Some, None}
@@ -46,6 +46,9 @@ module _ {X : Type 0} (key : X → ℕ) where
 
   pub ordered-push : (lo hi : ℕ) (xs : List X) (x : X) → ordered key lo hi xs ≡ true → key x ≡ hi → ordered key lo (hi + 1) (xs ++ x ∷ []) ≡ true
   ordered-push lo hi xs x o e = ordered-push-above lo hi (hi + 1) xs x o (omega arith) (omega arith)
+
+  pub ordered-pushed : (lo hi : ℕ) (xs ys : List X) (x : X) → ordered key lo hi xs ≡ true → key x ≡ hi → ys ≡ xs ++ x ∷ [] → ordered key lo (hi + 1) ys ≡ true
+  ordered-pushed lo hi xs ys x o e is = rw is (ordered-push lo hi xs x o e)
 
   -- a change that leaves the key
   pub ordered-change : (f : X → X) → ((x : X) → key (f x) ≡ key x) → (lo hi k : ℕ) (xs : List X) → ordered key lo hi xs ≡ true → ordered key lo hi (change key f k xs) ≡ true
@@ -112,3 +115,13 @@ module _ {X : Type 0} (key : X → ℕ) where
       (λ e _. (omega (arith, p .0, eqb-true (key y) k e), omega (arith, ordered-bounds (suc (key y)) hi ys (p .1), eqb-true (key y) k e)))
       (λ _ g. (let q = find-within (suc (key y)) hi k ys x (p .1) g in (omega (arith, p .0, q .0), q .1)))
       h
+
+  -- a write that leaves the key at its place
+  pub ordered-set : (lo hi : ℕ) (xs : List X) (i : ℕ) (x y : X) → ordered key lo hi xs ≡ true → x ≡ getD xs i x → key y ≡ key x → ordered key lo hi (set xs i y) ≡ true
+  ordered-set lo hi [] i x y o read same = o
+  ordered-set lo hi (z ∷ zs) zero x y o read same =
+      let p = and-parts (leb lo (key z)) (ordered key (suc (key z)) hi zs) o in
+      rw (same ∙ ap key read) (and-from _ _ (p .0) (p .1))
+  ordered-set lo hi (z ∷ zs) (suc i) x y o read same =
+      let p = and-parts (leb lo (key z)) (ordered key (suc (key z)) hi zs) o in
+      and-from _ _ (p .0) (ordered-set (suc (key z)) hi zs i x y (p .1) read same)

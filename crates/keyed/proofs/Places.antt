@@ -13,7 +13,7 @@ use Rattle.std.specs.declared.option.Option.the-variants.{Some, None}
 use Rattle.std.specs.Options.{isSome, Cases}
 use Rattle.std.specs.shelf.Lists.{removed}
 use Rattle.keyed.specs.Keyed.{ordered, find, known, change, without}
-use Rattle.keyed.proofs.Orders.{ordered-first, ordered-at, ordered-change, ordered-without, change-low, without-low}
+use Rattle.keyed.proofs.Orders.{ordered-first, ordered-at, ordered-change, ordered-set, ordered-without, change-low, without-low}
 
 module _ {X : Type 0} (key : X → ℕ) where
   -- the loop that looks for a key, over the slice xs that is the list ys: found at i
@@ -99,6 +99,10 @@ module _ {X : Type 0} (key : X → ℕ) where
 
     pub ordered-write : (f : X → X) → ((z : X) → key (f z) ≡ key z) → (x y : X) → x ≡ getD xs i x → y ≡ f x → ordered key 0 hi (set xs i y) ≡ true
     ordered-write f same x y read is = rw (change-write f x y read is) (ordered-change key f same 0 hi k xs o)
+
+    -- a record of the same key is put there
+    pub ordered-put-at : (y : X) → key y ≡ k → (x : X) → x ≡ getD xs i x → ordered key 0 hi (set xs i y) ≡ true
+    ordered-put-at y same x read = ordered-set key 0 hi xs i x y o read (same ∙ sym (ap key read ∙ e x))
 
     -- or it is removed
     pub without-removal : (ys : List X) (x : X) → ys ≡ removed xs i → ys ≡ without key k xs

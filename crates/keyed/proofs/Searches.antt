@@ -13,33 +13,35 @@ use Rattle.std.specs.Options.{mapped, isSome}
 use Rattle.keyed.specs.Members.{In, any, first}
 use Rattle.keyed.proofs.Finds.{some-not-none}
 
--- xs is the slice that the loop goes over, ys the list that the contract speaks of, and i the place
-module _ {X : Type 0} (test : X → Bool) (xs ys : List X) (same : xs ≡ ys) (i : ℕ) (so-far : any test (drop i ys) ≡ any test ys) where
-  step : (d : X) → i < length xs → any test (drop i ys) ≡ (test (getD xs i d) || any test (drop (i + 1) ys))
-  step d h = ap (λ (l : List X). any test (drop i l)) (sym same) ∙ (at-drop-more (any test) xs i d h ∙ ap (λ (l : List X). test (getD xs i d) || any test (drop (i + 1) l)) same)
+-- F gives what is found of the first element that passes the test; xs is the slice that the loop
+-- goes over, ys the list that the contract speaks of, and i the place
+module _ {X Y : Type 0} (F : List X → Y) (test : X → Bool) (found : X → Y) (more : (x : X) (xs : List X) → F (x ∷ xs) ≡ cond (test x) (found x) (F xs)) (xs ys : List X) (same : xs ≡ ys) (i : ℕ) (so-far : F (drop i ys) ≡ F ys) where
+  step : (d : X) → i < length xs → F (drop i ys) ≡ cond (test (getD xs i d)) (found (getD xs i d)) (F (drop (i + 1) ys))
+  step d h = ap (λ (l : List X). F (drop i l)) (sym same) ∙ (at-drop-more F xs i d h ∙ (more (getD xs i d) (drop (i + 1) xs) ∙ ap (λ (l : List X). cond (test (getD xs i d)) (found (getD xs i d)) (F (drop (i + 1) l))) same))
 
+  pub search-hit : (d : X) → i < length xs → test (getD xs i d) ≡ true → F ys ≡ found (getD xs i d)
+  search-hit d h t = sym so-far ∙ (step d h ∙ ap (λ b. cond b (found (getD xs i d)) (F (drop (i + 1) ys))) t)
+
+  pub search-miss : (d : X) → i < length xs → test (getD xs i d) ≡ false → F (drop (i + 1) ys) ≡ F ys
+  search-miss d h t = sym (step d h ∙ ap (λ b. cond b (found (getD xs i d)) (F (drop (i + 1) ys))) t) ∙ so-far
+
+  pub search-missed : length xs ≤ i → F ys ≡ F []
+  search-missed h = sym so-far ∙ rw same at (at-drop-all F xs i h)
+
+or-is : (x y : Bool) → (x || y) ≡ cond x true y
+or-is true y = refl
+or-is false y = refl
+
+-- the same for whether some element passes
+module _ {X : Type 0} (test : X → Bool) (xs ys : List X) (same : xs ≡ ys) (i : ℕ) (so-far : any test (drop i ys) ≡ any test ys) where
   pub any-hit : (d : X) → i < length xs → test (getD xs i d) ≡ true → any test ys ≡ true
-  any-hit d h t = sym so-far ∙ (step d h ∙ ap (λ b. b || any test (drop (i + 1) ys)) t)
+  any-hit = search-hit (any test) test (λ _. true) (λ x l. or-is (test x) (any test l)) xs ys same i so-far
 
   pub any-miss : (d : X) → i < length xs → test (getD xs i d) ≡ false → any test (drop (i + 1) ys) ≡ any test ys
-  any-miss d h t = sym (step d h ∙ ap (λ b. b || any test (drop (i + 1) ys)) t) ∙ so-far
+  any-miss = search-miss (any test) test (λ _. true) (λ x l. or-is (test x) (any test l)) xs ys same i so-far
 
   pub any-missed : length xs ≤ i → any test ys ≡ false
-  any-missed h = sym so-far ∙ rw same at (at-drop-all (any test) xs i h)
-
--- the same for the first element that passes
-module _ {X : Type 0} (test : X → Bool) (xs ys : List X) (same : xs ≡ ys) (i : ℕ) (so-far : first test (drop i ys) ≡ first test ys) where
-  first-step : (d : X) → i < length xs → first test (drop i ys) ≡ cond (test (getD xs i d)) (Some (getD xs i d)) (first test (drop (i + 1) ys))
-  first-step d h = ap (λ (l : List X). first test (drop i l)) (sym same) ∙ (at-drop-more (first test) xs i d h ∙ ap (λ (l : List X). cond (test (getD xs i d)) (Some (getD xs i d)) (first test (drop (i + 1) l))) same)
-
-  pub first-hit : (d : X) → i < length xs → test (getD xs i d) ≡ true → first test ys ≡ Some (getD xs i d)
-  first-hit d h t = sym so-far ∙ (first-step d h ∙ ap (λ b. cond b (Some (getD xs i d)) (first test (drop (i + 1) ys))) t)
-
-  pub first-miss : (d : X) → i < length xs → test (getD xs i d) ≡ false → first test (drop (i + 1) ys) ≡ first test ys
-  first-miss d h t = sym (first-step d h ∙ ap (λ b. cond b (Some (getD xs i d)) (first test (drop (i + 1) ys))) t) ∙ so-far
-
-  pub first-missed : length xs ≤ i → first test ys ≡ None
-  first-missed h = sym so-far ∙ rw same at (at-drop-all (first test) xs i h)
+  any-missed = search-missed (any test) test (λ _. true) (λ x l. or-is (test x) (any test l)) xs ys same i so-far
 
 -- what stands in a list and passes is seen by `any`, and the other way round
 module _ {X : Type 0} (test : X → Bool) where

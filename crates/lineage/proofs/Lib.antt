@@ -1,0 +1,4 @@
+pub mod Newborn
+pub mod Burials
+pub mod Visits
+pub mod Going

@@ -1,0 +1,5 @@
+pub mod Family
+pub mod Births
+pub mod Deaths
+pub mod Cascade
+pub mod Walked

@@ -1,0 +1,2 @@
+pub mod Link
+pub mod Linked

@@ -1,0 +1,14 @@
+use mathlib.Core.Path.{refl, sym}
+use Rattle.std.specs.declared.option.Option.the-variants.{None}
+use Rattle.keyed.proofs.Finds.{put-found, change-missing}
+use Rattle.nodes.specs.Node.{serial-of, with-owner}
+use Rattle.nodes.proofs.Nodes.release.Needs as need
+
+pub returns-in-Some : need.returns-in-Some
+returns-in-Some c = record {
+  nodes = put-found serial-of (with-owner None) 0 _ _ _ _ (c .in-Some .node) _ (c .args .self .now .order) (sym (c .in-Some .ensures tt)) refl refl (c .put .ensures .nodes);
+  next = c .put .ensures .next;
+}
+
+pub returns-in-rest : need.returns-in-rest
+returns-in-rest c = record { nodes = sym (change-missing serial-of (with-owner None) _ _ (sym (c .in-rest .ensures tt))); next = refl }
