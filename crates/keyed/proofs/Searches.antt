@@ -76,3 +76,14 @@ module _ {X : Type 0} (test : X → Bool) where
     | inl t ↦ (let is : x ≡ y = (let g = rw t at h in cc) in (inl is, ap test is ∙ t))
     | inr t ↦ (let g = first-in ys x (rw t at h) in (inr (g .0), g .1))
   ]
+
+-- the same for the first element that passes
+module _ {X : Type 0} (test : X → Bool) (xs ys : List X) (same : xs ≡ ys) (i : ℕ) (so-far : first test (drop i ys) ≡ first test ys) where
+  pub first-hit : (d : X) → i < length xs → test (getD xs i d) ≡ true → first test ys ≡ Some (getD xs i d)
+  first-hit = search-hit (first test) test (λ x. Some x) (λ x l. refl) xs ys same i so-far
+
+  pub first-miss : (d : X) → i < length xs → test (getD xs i d) ≡ false → first test (drop (i + 1) ys) ≡ first test ys
+  first-miss = search-miss (first test) test (λ x. Some x) (λ x l. refl) xs ys same i so-far
+
+  pub first-missed : length xs ≤ i → first test ys ≡ None
+  first-missed = search-missed (first test) test (λ x. Some x) (λ x l. refl) xs ys same i so-far
