@@ -1,0 +1,92 @@
+-- Rehearsals worked out: scripts, and all that a run of each comes to.
+use mathlib.Core.Path.{_≡_}
+use mathlib.Core.Bool.{Bool, true, false}
+use mathlib.Core.List.{List, [], _∷_, _++_}
+use Prim.Native.Nat.{ℕ, zero, suc}
+use lib.Chars.{codes}
+use lib.IntN.{ℤ, pos}
+use Rattle.std.specs.declared.option.Option.{Option}
+use Rattle.std.specs.declared.option.Option.the-variants.{Some, None}
+use Rattle.arrange.specs.Order.{Order, kept}
+use Rattle.entry.specs.declared.Entry.{Entry}
+use Rattle.entry.specs.declared.Entry.the-variants as entry
+use Rattle.entry.specs.declared.report.Report.{Report}
+use Rattle.reasons.specs.declared.cause.Cause.the-variants as cause
+use Rattle.reasons.specs.declared.ending.Ending.the-variants as ending
+use Rattle.reasons.specs.declared.end.End.{End}
+use Rattle.reasons.specs.declared.end.End.the-variants as end
+use Rattle.script.specs.Meaning.{Act, sleep, spawn, wake, await, done, Task, Plan}
+use Rattle.deterministic.specs.declared.counts.Counts.{Counts}
+use Rattle.deterministic.specs.Run.{Final, Finish, root-done, timed-out, stalled}
+use Rattle.deterministic.specs.Start.{Settings, run, report-of}
+use Rattle.crews.specs.Script.{Troupe, Refused, troupe, script-rule}
+
+-- so many times the same entry
+unfoldable pub blanks : ℕ → List Entry
+blanks zero = []
+blanks (suc n) = entry.Reg 0 ∷ blanks n
+
+-- the settings that a script gives
+abbrev pub settings-of : Plan → Settings
+settings-of p = record { cycle = p .cycle; start = p .start; timeout = p .timeout; catch = p .catch }
+
+-- the ids stay as they stand
+abbrev pub keep : Unit {0} → (ids : List ℕ) → Order (Unit {0}) ℕ ids
+keep v ids = kept v ids
+
+-- a script is rehearsed over a ledger of 2,048 entries, and no order is changed
+abbrev pub rehearsed : Plan → Final Troupe (Unit {0})
+rehearsed p = run script-rule keep (settings-of p) (blanks 2048) (troupe p) tt
+
+-- all that a rehearsal tells
+pub record Told : Type 0 where
+  pub log : List Entry
+  pub report : Report
+  pub time : ℕ
+  pub digest : List ℕ
+  pub finish : Finish
+  pub counts : Counts
+  pub refused : Option Refused
+
+-- what a run that has ended tells
+abbrev pub told : Final Troupe (Unit {0}) → Told
+told f = record {
+  log = f .model .ledger .log;
+  report = report-of (f .model);
+  time = f .model .clock .time;
+  digest = f .model .digest;
+  finish = f .finish;
+  counts = f .model .counts;
+  refused = f .crew .refused;
+}
+
+-- the script of the heat: the root spawns a task that sleeps, and sleeps longer itself
+abbrev pub heat : Option ℕ → Plan
+heat timeout = record {
+  cycle = 10; start = 0; timeout = timeout; catch = false;
+  tasks =
+    record { name = codes "root"; acts = spawn (codes "heat") ∷ sleep 50 ∷ done (pos 7) ∷ []; line = 2 }
+    ∷ record { name = codes "heat"; acts = sleep 20 ∷ done (pos 0) ∷ []; line = 3 } ∷ [];
+}
+
+-- its first three rounds, until the clock has jumped to the root's alarm
+abbrev pub heat-begins : List Entry → List Entry
+heat-begins rest =
+    entry.Reg 0 ∷ entry.Round 1 ∷ entry.Poll 0 true ∷ entry.Reg 1 ∷ entry.Arm 0 50 ∷ entry.Tick 10
+    ∷ entry.Round 1 ∷ entry.Poll 1 true ∷ entry.Arm 1 30 ∷ entry.Tick 20 ∷ entry.Jump 30 ∷ entry.Ring 1 30
+    ∷ entry.Round 1 ∷ entry.Poll 1 true ∷ entry.Done 1 ending.Returned ∷ entry.Tick 40 ∷ entry.Jump 50 ∷ rest
+
+-- the heat, to its end
+abbrev pub heat-told : Told
+heat-told = record {
+  log = heat-begins (entry.Ring 0 50 ∷ entry.Round 1 ∷ entry.Poll 0 true ∷ entry.End end.RootDone ∷ []);
+  report = record { rounds = 3; dealt = 4; undealt = 0; registered = 2; woken = 2 };
+  time = 50;
+  digest = 0x23 ∷ 0x07 ∷ 0x1c ∷ 0x62 ∷ [];
+  finish = root-done (pos 7);
+  counts = record { iterations = 3; spawned = 1; running = 0; polls = 4 };
+  refused = None;
+}
+
+abbrev pub Heat-is-rehearsed : Type 0
+Heat-is-rehearsed = told (rehearsed (heat None)) ≡ heat-told
