@@ -1,5 +1,5 @@
 -- The worked rehearsals, computed.
-use mathlib.Core.Path.{_≡_, refl}
+use mathlib.Core.Path.{refl}
 use Rattle.auditor.specs.Events.{digest-after}
 use Rattle.crc32c.specs.Crc.{after-bit, after-eight}
 use Rattle.deterministic.specs.Moves.{moves}
@@ -7,8 +7,15 @@ use Rattle.deterministic.specs.Calls.{apply}
 use Rattle.deterministic.specs.Ending.{markings}
 use Rattle.deterministic.specs.Run.{ringing, deals, rounds}
 use Rattle.crews.specs.Script.{steps}
-use Rattle.crews.specs.Rehearsals.{blanks, Heat-is-rehearsed}
+use Rattle.crews.specs.Rehearsals.{blanks, Rehearsals}
 
-pub heat-is : Heat-is-rehearsed
+pub rehearsals-come-out : Rehearsals
 unfolding digest-after after-bit after-eight moves apply markings ringing deals rounds steps blanks
-heat-is = refl
+rehearsals-come-out = record {
+  heat-is-done = refl;
+  timeout-at-the-jump = refl;
+  timeout-after-the-ring = refl;
+  timeout-before-the-first-round = refl;
+  root-that-awaits-stalls = refl;
+  woken-twice-is-dealt-three-times = refl;
+}

@@ -63,10 +63,13 @@ told f = record {
 -- the script of the heat: the root spawns a task that sleeps, and sleeps longer itself
 abbrev pub heat : Option ℕ → Plan
 heat timeout = record {
-  cycle = 10; start = 0; timeout = timeout; catch = false;
+  cycle = 10;
+  start = 0;
+  timeout = timeout;
+  catch = false;
   tasks =
-    record { name = codes "root"; acts = spawn (codes "heat") ∷ sleep 50 ∷ done (pos 7) ∷ []; line = 2 }
-    ∷ record { name = codes "heat"; acts = sleep 20 ∷ done (pos 0) ∷ []; line = 3 } ∷ [];
+      record { name = codes "root"; acts = spawn (codes "heat") ∷ sleep 50 ∷ done (pos 7) ∷ []; line = 2 }
+      ∷ record { name = codes "heat"; acts = sleep 20 ∷ done (pos 0) ∷ []; line = 3 } ∷ [];
 }
 
 -- its first three rounds, until the clock has jumped to the root's alarm
@@ -88,5 +91,89 @@ heat-told = record {
   refused = None;
 }
 
-abbrev pub Heat-is-rehearsed : Type 0
-Heat-is-rehearsed = told (rehearsed (heat None)) ≡ heat-told
+-- with a timeout of 50 the run is out of time once the clock has jumped to 50, before the root's alarm rings
+abbrev pub heat-out-of-time : Told
+heat-out-of-time = record {
+  log = heat-begins (entry.End end.Timeout ∷ []);
+  report = record { rounds = 2; dealt = 3; undealt = 0; registered = 2; woken = 1 };
+  time = 50;
+  digest = 0x45 ∷ 0xfb ∷ 0x45 ∷ 0xa9 ∷ [];
+  finish = timed-out;
+  counts = record { iterations = 2; spawned = 1; running = 0; polls = 3 };
+  refused = None;
+}
+
+-- with a timeout of 0 the run is out of time before its first round, and the root stays undealt
+abbrev pub heat-not-begun : Told
+heat-not-begun = record {
+  log = entry.Reg 0 ∷ entry.End end.Timeout ∷ [];
+  report = record { rounds = 0; dealt = 0; undealt = 1; registered = 1; woken = 0 };
+  time = 0;
+  digest = 0 ∷ 0 ∷ 0 ∷ 0 ∷ [];
+  finish = timed-out;
+  counts = record { iterations = 0; spawned = 0; running = 0; polls = 0 };
+  refused = None;
+}
+
+-- a root that only awaits the stop signal
+abbrev pub waiting-root : Plan
+waiting-root = record {
+  cycle = 10;
+  start = 0;
+  timeout = None;
+  catch = false;
+  tasks = record { name = codes "root"; acts = await ∷ []; line = 2 } ∷ [];
+}
+
+-- it stalls at its first close
+abbrev pub stalls-at-once : Told
+stalls-at-once = record {
+  log = entry.Reg 0 ∷ entry.Round 1 ∷ entry.Poll 0 true ∷ entry.Tick 10 ∷ entry.End end.Stalled ∷ [];
+  report = record { rounds = 0; dealt = 1; undealt = 0; registered = 1; woken = 0 };
+  time = 10;
+  digest = 0x3e ∷ 0x98 ∷ 0x6d ∷ 0x42 ∷ [];
+  finish = stalled;
+  counts = record { iterations = 0; spawned = 0; running = 0; polls = 1 };
+  refused = None;
+}
+
+-- the heat, which the root wakes twice after it has spawned it
+abbrev pub heat-woken-twice : Plan
+heat-woken-twice = record {
+  cycle = 10;
+  start = 0;
+  timeout = None;
+  catch = false;
+  tasks =
+      record { name = codes "root"; acts = spawn (codes "heat") ∷ wake (codes "heat") ∷ wake (codes "heat") ∷ sleep 50 ∷ done (pos 7) ∷ []; line = 2 }
+      ∷ record { name = codes "heat"; acts = sleep 20 ∷ done (pos 0) ∷ []; line = 3 } ∷ [];
+}
+
+-- it is dealt three times in the second round, and arms its alarm once
+abbrev pub dealt-three-times : Told
+dealt-three-times = record {
+  log =
+      entry.Reg 0 ∷ entry.Round 1 ∷ entry.Poll 0 true ∷ entry.Reg 1 ∷ entry.Wake 1 cause.Wake ∷ entry.Wake 1 cause.Wake ∷ entry.Arm 0 50 ∷ entry.Tick 10
+      ∷ entry.Round 3 ∷ entry.Poll 1 true ∷ entry.Arm 1 30 ∷ entry.Poll 1 true ∷ entry.Poll 1 true ∷ entry.Tick 20 ∷ entry.Jump 30 ∷ entry.Ring 1 30
+      ∷ entry.Round 1 ∷ entry.Poll 1 true ∷ entry.Done 1 ending.Returned ∷ entry.Tick 40 ∷ entry.Jump 50 ∷ entry.Ring 0 50
+      ∷ entry.Round 1 ∷ entry.Poll 0 true ∷ entry.End end.RootDone ∷ [];
+  report = record { rounds = 3; dealt = 6; undealt = 0; registered = 2; woken = 4 };
+  time = 50;
+  digest = 0x53 ∷ 0xaf ∷ 0xbe ∷ 0xa0 ∷ [];
+  finish = root-done (pos 7);
+  counts = record { iterations = 3; spawned = 1; running = 0; polls = 6 };
+  refused = None;
+}
+
+-- a rehearsal of the script tells this
+abbrev pub Tells : Plan → Told → Type 0
+Tells p t = told (rehearsed p) ≡ t
+
+-- the rehearsals, each by what happens in it
+pub record Rehearsals : Type 0 where
+  pub heat-is-done : Tells (heat None) heat-told
+  pub timeout-at-the-jump : Tells (heat (Some 50)) heat-out-of-time
+  pub timeout-after-the-ring : Tells (heat (Some 51)) heat-told
+  pub timeout-before-the-first-round : Tells (heat (Some 0)) heat-not-begun
+  pub root-that-awaits-stalls : Tells waiting-root stalls-at-once
+  pub woken-twice-is-dealt-three-times : Tells heat-woken-twice dealt-three-times

@@ -105,14 +105,19 @@ joined name id context t = record {
 -- the first refused call stays
 abbrev pub blamed : ℕ → Refusal → Troupe → Troupe
 blamed line r t = record {
-  tasks = t .tasks; actors = t .actors; names = t .names;
+  tasks = t .tasks;
+  actors = t .actors;
+  names = t .names;
   refused = sent (t .refused) (record { line = line; number = refusalNumber r });
 }
 
 -- an actor is so far
 abbrev pub so-far : ℕ → List Act → Wait → Troupe → Troupe
 so-far id acts wait t = record {
-  tasks = t .tasks; actors = change actor-id (with-rest acts wait) id (t .actors); names = t .names; refused = t .refused;
+  tasks = t .tasks;
+  actors = change actor-id (with-rest acts wait) id (t .actors);
+  names = t .names;
+  refused = t .refused;
 }
 
 -- at the start the root begins the steps of the task `root`, with the context at the tree's top

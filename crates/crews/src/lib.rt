@@ -1,9 +1,9 @@
 // The crews of the bench.
-ghost use Rattle.crews.specs.Rehearsals.{Heat-is-rehearsed};
+ghost use Rattle.crews.specs.Rehearsals.{Rehearsals};
 
 // The worked rehearsals come out as they should.
 pub fn rehearsals() -> u8
-    ensures { λ _. ⌜ Heat-is-rehearsed ⌝ }
+    ensures { λ _. ⌜ Rehearsals ⌝ }
 {
     0
 }

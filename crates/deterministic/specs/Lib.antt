@@ -7,3 +7,7 @@ pub mod Ending
 pub mod Rules
 pub mod Run
 pub mod Start
+pub mod Below
+pub mod Acts
+pub mod History
+pub mod Went

@@ -25,7 +25,7 @@ use Rattle.auditor.specs.Events.{process-task}
 use Rattle.deterministic.specs.declared.outcome.Outcome.{Outcome}
 use Rattle.deterministic.specs.declared.outcome.Outcome.the-variants as outcome
 use Rattle.deterministic.specs.Model.{Task, Queues, Model, with-clock, with-queues, with-alarms, with-counts, with-body, free, noted, audited, queued, at-time, task-at, one-iteration, one-poll}
-use Rattle.deterministic.specs.Moves.{moves, after-doing}
+use Rattle.deterministic.specs.Moves.{Doing, after-doing}
 use Rattle.deterministic.specs.Calls.{apply}
 use Rattle.deterministic.specs.Ending.{ending-of, settling, settling-root}
 use Rattle.deterministic.specs.Rules.{Turn}
@@ -88,11 +88,11 @@ root-finish outcome.Pending = None
 root-finish (outcome.Done value) = Some (root-done value)
 root-finish (outcome.Fault code) = Some (faulted code)
 
--- the executor after a body's calls and what follows them
-abbrev pub settled : ℕ → Outcome → Model → Model
-settled i o m =
-    let root = after-doing (settling-root o) m in
-    let other = after-doing (settling i o) m in
+-- what follows a body's calls
+abbrev pub settle : ℕ → Outcome → Doing
+settle i o m =
+    let root = settling-root o m in
+    let other = settling i o m in
     cond (eqb i 0) root other
 
 -- how a body's outcome ends the run, if it is the root's
@@ -184,7 +184,7 @@ final m v w f = record { model = ended f m; crew = v; arranger = w; finish = f }
 module _ {V : Type 0} (rule : V → ℕ → Model → Turn V) where
   -- a body's turn: its calls are applied, and what follows them is done
   abbrev pub turned : ℕ → Turn V → Model → Stage V
-  turned i t m = stage (settled i (t .outcome) (apply (t .calls) m)) (t .value) (finish-of i (t .outcome))
+  turned i t m = stage (after-doing (settle i (t .outcome)) (apply (t .calls) m)) (t .value) (finish-of i (t .outcome))
 
   -- a task's body is called
   abbrev pub deal-body : Task → List ℕ → V → Model → Stage V

@@ -1,5 +1,5 @@
 use Rattle.crews.proofs.rehearsals.Needs as need
-use Rattle.crews.proofs.Rehearsed.{heat-is}
+use Rattle.crews.proofs.Rehearsed.{rehearsals-come-out}
 
 pub returns : need.returns
-returns c = heat-is
+returns c = rehearsals-come-out
