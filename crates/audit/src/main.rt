@@ -1,6 +1,6 @@
 // Prints the digest after each event of an audit, read from a file or from standard input.
 use event_lines::audit::audit_input;
-use event_lines::event::Trouble;
+use event_lines::wrong::MisreadDisplay;
 use std::env;
 use std::error::AnyError;
 use std::fs;
@@ -8,15 +8,6 @@ use std::io::Read;
 use std::io::Write;
 
 const USAGE: &str = "usage: audit [FILE]";
-
-// What is wrong with a line that is no event.
-fn explanation(trouble: Trouble) -> &'static str {
-    match trouble {
-        Trouble::NoEvent => "no event; one is (process_task ID LABEL), (stop VALUE) or (stopped)",
-        Trouble::NoId => "the id is no whole number from 0 to 18446744073709551615",
-        Trouble::NoValue => "the stop value is no whole number from -2147483648 to 2147483647",
-    }
-}
 
 // The bytes of the file that is named, or of standard input where none is or where it is `-`.
 fn read_input(rt: &LibcRuntime, name: Option<&str>) -> Result<Vec<u8>, AnyError> {
@@ -37,9 +28,7 @@ fn show(rt: &LibcRuntime, input: &[u8]) -> Result<(), AnyError> {
     match audited.misread {
         None => Ok(()),
         Some(misread) => {
-            let line = misread.line;
-            let wrong = explanation(misread.trouble);
-            eprintln!(rt, "line {line}: {wrong}")?;
+            eprintln!(rt, "{misread}")?;
             Err("a line is no event".into())
         }
     }

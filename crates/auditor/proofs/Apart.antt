@@ -8,7 +8,7 @@ use lib.IntN.{ℤ, pos, negsuc}
 use lib.ListN.{length, getD}
 use mir.Syntax.{w32}
 use mir.Val.{SFits}
-use Rattle.auditor.specs.Bytes.{big-endian, framed}
+use Rattle.auditor.specs.Bytes.{big-endian, framed, Short, Unambiguous}
 use Rattle.auditor.specs.Events.{Event, process-task, stop, stopped, name-of, parts-of, two's-complement, Signed-32, Possible, Unmistakable}
 use Rattle.auditor.proofs.Endian.{big-endian-length, big-endian-injective}
 
@@ -29,6 +29,25 @@ behind-length part other rest tail same =
 first-part : (part other : List ℕ) (parts others : List (List ℕ)) → length part ≡ length other → framed (part ∷ parts) ≡ framed (other ∷ others) → (part ≡ other) × (framed parts ≡ framed others)
 first-part part other parts others long same =
     append-apart part other (framed parts) (framed others) long (behind-length part other (framed parts) (framed others) same)
+
+-- the prefixes of a part tell how long it is
+same-length : (part other rest tail : List ℕ) → length part < 2 ^ 64 → length other < 2 ^ 64 → big-endian 8 (length part) ++ rest ≡ big-endian 8 (length other) ++ tail → length part ≡ length other
+same-length part other rest tail p q same =
+    big-endian-injective 8 (length part) (length other) p q (append-apart (big-endian 8 (length part)) (big-endian 8 (length other)) rest tail refl same .0)
+
+-- some bytes are not none
+some-none : (x : ℕ) (xs : List ℕ) → x ∷ xs ≡ [] → ⊥
+some-none x xs same = let h = ap length same in omega (arith, h)
+
+pub framed-apart : Unambiguous
+framed-apart [] [] p q same = refl
+framed-apart [] (other ∷ others) p q same = absurd (some-none _ _ (sym same))
+framed-apart (part ∷ parts) [] p q same = absurd (some-none _ _ same)
+framed-apart (part ∷ parts) (other ∷ others) p q same =
+    let long = same-length part other (part ++ framed parts) (other ++ framed others) (p .0) (q .0) same in
+    let pieces = first-part part other parts others long same in
+    let later = framed-apart parts others (p .1) (q .1) (pieces .1) in
+    (λ i. pieces .0 i ∷ later i)
 
 last-part : (part other : List ℕ) → framed (part ∷ []) ≡ framed (other ∷ []) → part ≡ other
 last-part part other same = sym (append-nil part) ∙ behind-length part other [] [] same ∙ append-nil other

@@ -69,7 +69,7 @@ Possible (process-task id label) = id < 2 ^ 64
 Possible (stop value) = Signed-32 value
 Possible stopped = Unit {0}
 
--- no other event, after whatever digest, hashes the same bytes
+-- no other event that can happen, after whatever digest of four bytes, hashes the same bytes
 unfoldable pub Unmistakable : List ℕ → Event → Type 0
 Unmistakable digest event =
     (before : List ℕ) (other : Event) → length before ≡ 4 → Possible other → hashed before other ≡ hashed digest event → (before ≡ digest) × (other ≡ event)

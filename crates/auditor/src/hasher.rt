@@ -2,8 +2,7 @@
 ghost use mathlib.Core.Path.{_≡_};
 ghost use mathlib.Core.List.{List, [], _∷_, _++_};
 ghost use Prim.Native.Nat.{ℕ};
-ghost use lib.ListN.{length};
-ghost use Rattle.auditor.specs.Bytes.{big-endian, framed};
+ghost use Rattle.auditor.specs.Bytes.{big-endian, Unambiguous};
 ghost use Rattle.auditor.specs.Events.{digest-of-parts};
 ghost use Rattle.auditor.specs.Taken.{Taken};
 use crc32c::Crc32c;
@@ -44,8 +43,9 @@ impl AuditHasher {
         self.crc.update(part);
     }
 
-    // The digest of all parts that were taken.
+    // The digest of all parts that were taken; no two lists of parts are hashed as the same bytes.
     pub fn finalize(self) -> [u8; 4]
+        ensures unambiguous { λ _. ⌜ Unambiguous ⌝ }
         ensures value { λ r. ⌜ ((parts : List (List ℕ)) → Taken self parts → r ≡ digest-of-parts parts) ⌝ }
     {
         let AuditHasher { crc } = self;

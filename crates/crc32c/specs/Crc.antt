@@ -1,6 +1,6 @@
 -- CRC-32C as RFC 3720 defines it, one bit at a time.
 --
--- polynomial   0x1EDC6F41; its 32 coefficients, the highest power first
+-- polynomial   0x11EDC6F41, here its 32 coefficients below the highest power, 0x1EDC6F41
 -- reflected    every byte is taken from its lowest bit, so the register shifts down and the polynomial is turned round
 -- register     begins as 32 ones; what is left after the last bit is complemented
 use mathlib.Core.List.{List, _++_}
@@ -14,7 +14,7 @@ abbrev pub reversed : ℕ → ℕ → ℕ
 reversed zero x = 0
 reversed (suc n) x = x % 2 * 2 ^ n + reversed n (x / 2)
 
--- the polynomial as RFC 3720 writes it
+-- the polynomial of RFC 3720, without its highest power
 abbrev pub polynomial : ℕ
 polynomial = 0x1edc6f41
 

@@ -15,7 +15,7 @@ use Rattle.reasons.specs.declared.cause.Cause.the-variants as cause
 use Rattle.reasons.specs.declared.ending.Ending.the-variants as ending
 use Rattle.reasons.specs.declared.end.End.{End}
 use Rattle.reasons.specs.declared.end.End.the-variants as end
-use Rattle.script.specs.Meaning.{Act, sleep, spawn, wake, await, done, Task, Plan}
+use Rattle.forms.specs.Meaning.{Act, sleep, spawn, wake, await, done, Task, Plan}
 use Rattle.deterministic.specs.declared.counts.Counts.{Counts}
 use Rattle.deterministic.specs.Run.{Final, Finish, root-done, timed-out, stalled}
 use Rattle.deterministic.specs.Start.{Settings, run, report-of}

@@ -18,8 +18,8 @@ use Rattle.keyed.specs.Choices.{whether, given}
 use Rattle.oneshot.specs.Cell.{sent}
 use Rattle.signal.specs.declared.Poll.{Poll}
 use Rattle.signal.specs.declared.Poll.the-variants.{Ready, Pending}
-use Rattle.script.specs.Meaning as script
-use Rattle.script.specs.Meaning.{Act, Plan}
+use Rattle.forms.specs.Meaning as script
+use Rattle.forms.specs.Meaning.{Act, Plan}
 use Rattle.deterministic.specs.declared.outcome.Outcome.{Outcome}
 use Rattle.deterministic.specs.declared.outcome.Outcome.the-variants as outcome
 use Rattle.deterministic.specs.declared.refusal.Refusal.{Refusal}

@@ -11,10 +11,12 @@ use Rattle.std.specs.declared.option.Option.{Option}
 use Rattle.std.specs.declared.option.Option.the-variants.{Some, None}
 use Rattle.std.specs.declared.result.Result.{Result}
 use Rattle.std.specs.declared.result.Result.the-variants.{Ok, Err}
+use Rattle.std.specs.Written.{decimal}
 use Rattle.auditor.specs.Events.{Event, digest-after, no-digest}
 use Rattle.lines.specs.Lines.{Text, textOf}
 use Rattle.event_lines.specs.declared.event.Misread.{Misread}
 use Rattle.event_lines.specs.declared.event.Trouble.{Trouble}
+use Rattle.event_lines.specs.declared.event.Trouble.the-variants.{NoEvent, NoId, NoValue}
 use Rattle.event_lines.specs.Lines.{eventOf}
 
 -- the lowercase hexadecimal digit of a number below 16
@@ -77,3 +79,13 @@ linesOf bs = textOf bs .lines ++ lastLine (textOf bs .rest)
 -- what is told of a whole input
 abbrev pub audited : List ℕ → Outcome
 audited bs = outcome no-digest 1 (linesOf bs)
+
+-- what is wrong with a line that is no event, in words
+abbrev pub explained : Trouble → List ℕ
+explained NoEvent = codes "no event; one is (process_task ID LABEL), (stop VALUE) or (stopped)"
+explained NoId = codes "the id is no whole number from 0 to 18446744073709551615"
+explained NoValue = codes "the stop value is no whole number from -2147483648 to 2147483647"
+
+-- a line that is no event, by its number and what is wrong with it
+abbrev pub misreadLine : Misread → List ℕ
+misreadLine m = codes "line " ++ (decimal (m .line) ++ (codes ": " ++ explained (m .trouble)))

@@ -3,3 +3,4 @@ pub mod audit;
 pub mod event;
 mod hex;
 pub mod reader;
+pub mod wrong;

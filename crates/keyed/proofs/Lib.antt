@@ -2,6 +2,7 @@ pub mod Orders
 pub mod Places
 pub mod Finds
 pub mod Members
+pub mod Maps
 pub mod Searches
 pub mod Counts
 pub mod Lawful

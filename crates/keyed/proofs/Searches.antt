@@ -2,16 +2,18 @@
 use mathlib.Core.Path.{_≡_, refl, sym, ap, _∙_}
 use mathlib.Core.Bool.{Bool, true, false, cond, _||_}
 use mathlib.Core.Logic.{_⊎_, inl, inr}
-use mathlib.Core.List.{List, [], _∷_}
+use mathlib.Core.List.{List, [], _∷_, _++_}
 use Prim.Native.Nat.{ℕ, _+_, _<_, _≤_}
 use lib.ListN.{length, getD, drop}
 use Rattle.std.proofs.shelf.Lists.{at-drop-more, at-drop-all}
-use Rattle.std.proofs.shelf.Tests.{cases-bool, or-left, or-right, or-cases, or-parts, false≢true}
+use Rattle.std.proofs.shelf.Tests.{cases-bool, or-left, or-right, or-cases, or-parts, or-from, false≢true}
 use Rattle.std.specs.declared.option.Option.{Option}
 use Rattle.std.specs.declared.option.Option.the-variants.{Some, None}
 use Rattle.std.specs.Options.{mapped, isSome}
 use Rattle.keyed.specs.Members.{In, any, first}
+use Rattle.std.specs.shelf.Lists.{kept-by}
 use Rattle.keyed.proofs.Finds.{some-not-none}
+use Rattle.keyed.proofs.Members.{in-left, in-right, in-parts, in-kept, in-unkept}
 
 -- F gives what is found of the first element that passes the test; xs is the slice that the loop
 -- goes over, ys the list that the contract speaks of, and i the place
@@ -76,6 +78,45 @@ module _ {X : Type 0} (test : X → Bool) where
     | inl t ↦ (let is : x ≡ y = (let g = rw t at h in cc) in (inl is, ap test is ∙ t))
     | inr t ↦ (let g = first-in ys x (rw t at h) in (inr (g .0), g .1))
   ]
+
+  pub first-none-any : (xs : List X) → first test xs ≡ None → any test xs ≡ false
+  first-none-any [] h = refl
+  first-none-any (y ∷ ys) h = elim (cases-bool (test y)) [
+    | inl t ↦ (let g : Some y ≡ None = rw t at h in absurd (some-not-none g refl))
+    | inr t ↦ or-from (test y) (any test ys) t (first-none-any ys (rw t at h))
+  ]
+
+  pub any-none-first : (xs : List X) → any test xs ≡ false → first test xs ≡ None
+  any-none-first [] h = refl
+  any-none-first (y ∷ ys) h =
+      let p = or-parts (test y) (any test ys) h in
+      rw (p .0) (any-none-first ys (p .1))
+
+  pub none-any : (xs : List X) → ((x : X) → In x xs → test x ≡ false) → any test xs ≡ false
+  none-any [] h = refl
+  none-any (y ∷ ys) h = or-from (test y) (any test ys) (h y (inl refl)) (none-any ys (λ x i. h x (inr i)))
+
+  pub any-left : (xs ys : List X) → any test xs ≡ true → any test (xs ++ ys) ≡ true
+  any-left xs ys h = let w = in-any xs h in any-in (w .0) (xs ++ ys) (in-left (w .0) xs ys (w .1)) (w .2)
+
+  pub any-right : (xs ys : List X) → any test ys ≡ true → any test (xs ++ ys) ≡ true
+  any-right xs ys h = let w = in-any ys h in any-in (w .0) (xs ++ ys) (in-right (w .0) xs ys (w .1)) (w .2)
+
+  pub any-parts : (xs ys : List X) → any test (xs ++ ys) ≡ true → (any test xs ≡ true) ⊎ (any test ys ≡ true)
+  any-parts xs ys h =
+      let w = in-any (xs ++ ys) h in
+      elim (in-parts (w .0) xs ys (w .1)) [ inl i ↦ inl (any-in (w .0) xs i (w .2)) | inr i ↦ inr (any-in (w .0) ys i (w .2)) ]
+
+  -- a filter that keeps what passes
+  pub any-kept : (keep : X → Bool) (xs : List X) → any test xs ≡ true → ((x : X) → test x ≡ true → keep x ≡ true) → any test (kept-by keep xs) ≡ true
+  any-kept keep xs h keeps =
+      let w = in-any xs h in
+      any-in (w .0) (kept-by keep xs) (in-kept keep (w .0) xs (w .1) (keeps (w .0) (w .2))) (w .2)
+
+  pub any-unkept : (keep : X → Bool) (xs : List X) → any test (kept-by keep xs) ≡ true → any test xs ≡ true
+  any-unkept keep xs h =
+      let w = in-any (kept-by keep xs) h in
+      any-in (w .0) xs (in-unkept keep (w .0) xs (w .1)) (w .2)
 
 -- the same for the first element that passes
 module _ {X : Type 0} (test : X → Bool) (xs ys : List X) (same : xs ≡ ys) (i : ℕ) (so-far : first test (drop i ys) ≡ first test ys) where

@@ -18,7 +18,7 @@ use Rattle.nodes.specs.declared.Node.{Node}
 use Rattle.nodes.specs.Node.{serial-of}
 use Rattle.links.proofs.Gathering.{children-count}
 use Rattle.lineage.specs.Family.{Family, family, node-at}
-use Rattle.lineage.specs.Cascade.{Step, condemned, passed, struck, step-at, step, quick}
+use Rattle.lineage.specs.Cascade.{Step, condemned, passed, struck, step-at, step, unaborted}
 
 module _ (s : ℕ) (F : Family) where
   pub step-dead : node-at s F ≡ None → step s F ≡ passed F
@@ -31,36 +31,36 @@ module _ (s : ℕ) (F : Family) where
     pub step-struck : n .aborted ≡ false → step s F ≡ struck s n F
     step-struck h = ap (λ (o : Option Node). step-at s o F) found ∙ rw h refl
 
-quick-change : (s : ℕ) (xs : List Node) → quick (change serial-of condemned s xs) ≤ quick xs
-quick-change s [] = omega arith
-quick-change s (x ∷ xs) =
-    let rest = quick-change s xs in
-    let Q : Bool → Type 0 = λ a. cond a (quick (change serial-of condemned s xs)) (suc (quick (change serial-of condemned s xs))) ≤ cond a (quick xs) (suc (quick xs)) in
-    let R : Bool → Type 0 = λ a. quick (change serial-of condemned s xs) ≤ cond a (quick xs) (suc (quick xs)) in
-    elim (eqb (serial-of x) s) as (λ b. quick (cond b (condemned x) x ∷ change serial-of condemned s xs) ≤ quick (x ∷ xs)) [
+unaborted-change : (s : ℕ) (xs : List Node) → unaborted (change serial-of condemned s xs) ≤ unaborted xs
+unaborted-change s [] = omega arith
+unaborted-change s (x ∷ xs) =
+    let rest = unaborted-change s xs in
+    let Q : Bool → Type 0 = λ a. cond a (unaborted (change serial-of condemned s xs)) (suc (unaborted (change serial-of condemned s xs))) ≤ cond a (unaborted xs) (suc (unaborted xs)) in
+    let R : Bool → Type 0 = λ a. unaborted (change serial-of condemned s xs) ≤ cond a (unaborted xs) (suc (unaborted xs)) in
+    elim (eqb (serial-of x) s) as (λ b. unaborted (cond b (condemned x) x ∷ change serial-of condemned s xs) ≤ unaborted (x ∷ xs)) [
       | true ↦ elim (x .aborted) as R [ true ↦ rest | false ↦ omega arith ]
       | false ↦ elim (x .aborted) as Q [ true ↦ rest | false ↦ omega arith ]
     ]
 
 -- each node that is struck leaves fewer to strike
-pub quick-hit : (s : ℕ) (xs : List Node) (n : Node) → find serial-of s xs ≡ Some n → n .aborted ≡ false → suc (quick (change serial-of condemned s xs)) ≤ quick xs
-quick-hit s [] n found h = absurd (some-not-none refl found)
-quick-hit s (x ∷ xs) n found h = elim (cases-bool (eqb (serial-of x) s)) [
+pub unaborted-hit : (s : ℕ) (xs : List Node) (n : Node) → find serial-of s xs ≡ Some n → n .aborted ≡ false → suc (unaborted (change serial-of condemned s xs)) ≤ unaborted xs
+unaborted-hit s [] n found h = absurd (some-not-none refl found)
+unaborted-hit s (x ∷ xs) n found h = elim (cases-bool (eqb (serial-of x) s)) [
   | inl e ↦
       let is : x ≡ n = (let f = rw e at found in cc) in
       let a : x .aborted ≡ false = ap (λ (m : Node). m .aborted) is ∙ h in
-      rw (e, a) (omega (arith, quick-change s xs))
+      rw (e, a) (omega (arith, unaborted-change s xs))
   | inr e ↦
-      let rest = quick-hit s xs n (rw e at found) h in
-      let Q : Bool → Type 0 = λ a. suc (cond a (quick (change serial-of condemned s xs)) (suc (quick (change serial-of condemned s xs)))) ≤ cond a (quick xs) (suc (quick xs)) in
+      let rest = unaborted-hit s xs n (rw e at found) h in
+      let Q : Bool → Type 0 = λ a. suc (cond a (unaborted (change serial-of condemned s xs)) (suc (unaborted (change serial-of condemned s xs)))) ≤ cond a (unaborted xs) (suc (unaborted xs)) in
       rw e (elim (x .aborted) as Q [ true ↦ rest | false ↦ omega arith ])
 ]
 
-pub quick-few : (xs : List Node) → quick xs ≤ length xs
-quick-few [] = omega arith
-quick-few (x ∷ xs) =
-    let rest = quick-few xs in
-    elim (x .aborted) as (λ a. cond a (quick xs) (suc (quick xs)) ≤ suc (length xs)) [ true ↦ omega arith | false ↦ omega arith ]
+pub unaborted-few : (xs : List Node) → unaborted xs ≤ length xs
+unaborted-few [] = omega arith
+unaborted-few (x ∷ xs) =
+    let rest = unaborted-few xs in
+    elim (x .aborted) as (λ a. cond a (unaborted xs) (suc (unaborted xs)) ≤ suc (length xs)) [ true ↦ omega arith | false ↦ omega arith ]
 
 length-listOf : (o : Option ℕ) → length (listOf o) ≤ 1
 length-listOf None = omega arith
@@ -69,14 +69,14 @@ length-listOf (Some k) = omega arith
 -- what a step leaves: links go over to what waits, and marks stand against nodes that are struck
 pub record Leaves (F : Family) (v : Step) : Type 0 where
   pub falls : length (v .below) + length (v .after .links) ≡ length (F .links)
-  pub room : length (v .marks) + quick (v .after .nodes) ≤ quick (F .nodes)
+  pub room : length (v .marks) + unaborted (v .after .nodes) ≤ unaborted (F .nodes)
 
 step-leaves-at : (s : ℕ) (o : Option Node) (F : Family) → node-at s F ≡ o → Leaves F (step-at s o F)
 step-leaves-at s None F e = record { falls = omega arith; room = omega arith }
 step-leaves-at s (Some n) F e =
     cond-both (n .aborted) (passed F) (struck s n F) (Leaves F)
     (λ _. record { falls = omega arith; room = omega arith })
-    (λ a. record { falls = children-count s (F .links); room = omega (arith, quick-hit s (F .nodes) n e a, length-listOf (n .task)) })
+    (λ a. record { falls = children-count s (F .links); room = omega (arith, unaborted-hit s (F .nodes) n e a, length-listOf (n .task)) })
 
 pub step-leaves : (s : ℕ) (F : Family) → Leaves F (step s F)
 step-leaves s F = step-leaves-at s (node-at s F) F refl
@@ -89,8 +89,8 @@ turn-falls s F G p q p′ popped waits after =
     let d = ap (λ (f : Family). length (f .links)) after in
     omega (arith, a, b, d, step-leaves s F .falls)
 
-pub turn-room : (s : ℕ) (F G : Family) (marks marks′ : List ℕ) → marks′ ≡ marks ++ step s F .marks → G ≡ step s F .after → length marks′ + quick (G .nodes) ≤ length marks + quick (F .nodes)
+pub turn-room : (s : ℕ) (F G : Family) (marks marks′ : List ℕ) → marks′ ≡ marks ++ step s F .marks → G ≡ step s F .after → length marks′ + unaborted (G .nodes) ≤ length marks + unaborted (F .nodes)
 turn-room s F G marks marks′ noted after =
     let a = ap length noted ∙ length-append marks (step s F .marks) in
-    let d = ap (λ (f : Family). quick (f .nodes)) after in
+    let d = ap (λ (f : Family). unaborted (f .nodes)) after in
     omega (arith, a, d, step-leaves s F .room)

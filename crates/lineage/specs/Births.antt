@@ -31,8 +31,8 @@ abbrev pub grown : Option ℕ → Bool → ℕ → Family → Family
 grown parent aborted owner F = family (F .nodes ++ fresh (F .next) parent aborted owner ∷ []) (F .links) (F .next + 1)
 
 -- below an aborted node a new one is aborted, and has neither parent nor link
-abbrev pub stillborn : ℕ → Family → Family
-stillborn owner F = grown None true owner F
+abbrev pub orphaned : ℕ → Family → Family
+orphaned owner F = grown None true owner F
 
 -- below any other node p it is its child, and linked there
 abbrev pub joined : ℕ → ℕ → Family → Family

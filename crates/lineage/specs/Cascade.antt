@@ -62,6 +62,6 @@ abbrev pub cascaded : ℕ → Family → Family × List ℕ
 cascaded top F = walk (1 + length (F .links)) (top ∷ []) F
 
 -- how many nodes are not aborted
-abbrev pub quick : List Node → ℕ
-quick [] = 0
-quick (n ∷ ns) = cond (n .aborted) (quick ns) (suc (quick ns))
+abbrev pub unaborted : List Node → ℕ
+unaborted [] = 0
+unaborted (n ∷ ns) = cond (n .aborted) (unaborted ns) (suc (unaborted ns))

@@ -7,7 +7,7 @@ ghost use Rattle.std.specs.Vec.{made, listOf};
 ghost use Rattle.nodes.specs.Living.{living};
 ghost use Rattle.links.specs.Linked.{linked};
 ghost use Rattle.lineage.specs.Family.{family-of};
-ghost use Rattle.lineage.specs.Cascade.{step, cascaded, quick};
+ghost use Rattle.lineage.specs.Cascade.{step, cascaded, unaborted};
 ghost use Rattle.lineage.specs.Walked.{to-mark, to-visit};
 use crate::walk::Walk;
 use links::Links;
@@ -51,7 +51,7 @@ impl Walk {
     // One step: the node is aborted, its task is noted, and its children wait.
     fn visit(&mut self, nodes: &mut Nodes, links: &mut Links, serial: u64)
         requires waiting { ⌜ length (to-visit (now self)) + length (linked (now links)) ≤ 256 ⌝ }
-        requires marks { ⌜ length (to-mark (now self)) + quick (living (now nodes)) ≤ 128 ⌝ }
+        requires marks { ⌜ length (to-mark (now self)) + unaborted (living (now nodes)) ≤ 128 ⌝ }
         ensures after { λ _. ⌜ family-of (now (nodes .exit)) (now (links .exit)) ≡ step serial (family-of (now (nodes .entry)) (now (links .entry))) .after ⌝ }
         ensures waiting { λ _. ⌜ to-visit (now (self .exit)) ≡ to-visit (now (self .entry)) ++ step serial (family-of (now (nodes .entry)) (now (links .entry))) .below ⌝ }
         ensures marked { λ _. ⌜ to-mark (now (self .exit)) ≡ to-mark (now (self .entry)) ++ step serial (family-of (now (nodes .entry)) (now (links .entry))) .marks ⌝ }

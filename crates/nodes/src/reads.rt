@@ -8,7 +8,7 @@ ghost use Rattle.keyed.specs.Keyed.{find, known};
 ghost use Rattle.keyed.specs.Choices.{holds};
 ghost use Rattle.keyed.specs.Members.{any, first};
 ghost use Rattle.nodes.specs.Node.{serial-of, child-of, seats, kept, unkept};
-ghost use Rattle.nodes.specs.Living.{living};
+ghost use Rattle.nodes.specs.Living.{living, next-serial};
 ghost use Rattle.nodes.specs.declared.Node.{Node};
 use crate::Node;
 use crate::Nodes;
@@ -29,6 +29,13 @@ impl Nodes {
         ensures { λ r. ⌜ r ≡ length (living (now (self .entry))) ⌝ }
     {
         self.list.len()
+    }
+
+    // The serial that the next node gets.
+    pub fn next_serial(&self) -> u64
+        ensures { λ r. ⌜ r ≡ next-serial (now (self .entry)) ⌝ }
+    {
+        self.next
     }
 
     // The place of the node with this serial.

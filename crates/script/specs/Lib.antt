@@ -1,7 +1,3 @@
-pub mod Faults
-pub mod Forms
-pub mod Meaning
-pub mod Reading
-pub mod Reads
-pub mod Spelled
+-- What the scripts of the code mean, and when a reader's answer agrees with the definition.
+pub mod Drafts
 pub mod Views

@@ -1,38 +1,34 @@
--- What the steps, tasks and scripts of the code mean. Assumes nothing.
+-- What the scripts of the code mean, and when a reader's answer agrees with the definition.
+use mathlib.Core.Path.{_≡_}
 use mathlib.Core.List.{List, map}
+use Prim.Native.Nat.{ℕ}
 use Rattle.std.specs.Of.Vec.{vec-items}
-use Rattle.script.specs.declared.form.Form.{Form}
-use Rattle.script.specs.declared.form.Form.the-variants as form
-use Rattle.script.specs.declared.form.Script.{Script}
-use Rattle.script.specs.declared.form.Step.{Step}
-use Rattle.script.specs.declared.form.Step.the-variants.{Sleep, Spawn, Wake, Abort, Stop, Await, Done, Fault}
-use Rattle.script.specs.declared.form.TaskForm.{TaskForm}
-use Rattle.script.specs.Meaning.{Act, sleep, spawn, wake, abort, stop, await, done, fault, Task, Plan, Says, setting, task}
-
--- the act of a step
-abbrev pub actOf : Step → Act
-actOf (Sleep n) = sleep n
-actOf (Spawn w) = spawn (w .now)
-actOf (Wake w) = wake (w .now)
-actOf (Abort w) = abort (w .now)
-actOf (Stop z) = stop z
-actOf Await = await
-actOf (Done z) = done z
-actOf (Fault n) = fault n
-
--- the acts of a task, in order
-abbrev pub actsOf : TaskForm → List Act
-actsOf t = map actOf (vec-items (t .steps))
-
--- what a task says, with its line
-abbrev pub taskOf : TaskForm → Task
-taskOf t = record { name = t .name .now; acts = actsOf t; line = t .line }
-
--- what a form says, apart from its line
-abbrev pub saysOf : Form → Says
-saysOf (form.Setting s) = setting s
-saysOf (form.Task t) = task (t .name .now) (actsOf t)
+use Rattle.std.specs.declared.result.Result.{Result}
+use Rattle.std.specs.declared.result.Result.the-variants.{Ok, Err}
+use Rattle.faults.specs.declared.fault.Fault.{Fault}
+use Rattle.faults.specs.declared.read_fault.ReadFault.{ReadFault}
+use Rattle.faults.specs.declared.read_fault.ReadFault.the-variants.{Refused, Memory}
+use Rattle.forms.specs.declared.form.TaskForm.{TaskForm}
+use Rattle.forms.specs.Views.{taskOf}
+use Rattle.forms.specs.Meaning.{Plan}
+use Rattle.grammar.specs.Reading.{namesOf}
+use Rattle.script.specs.declared.script.Script.{Script}
 
 -- what a script says
 abbrev pub scriptOf : Script → Plan
 scriptOf s = record { cycle = s .«cycle_ns»; start = s .«start_ns»; timeout = s .«timeout_ns»; catch = s .catch; tasks = map taskOf (vec-items (s .tasks)) }
+
+-- the names that tasks have, in order
+abbrev pub namesIn : List TaskForm → List (List ℕ)
+namesIn ts = namesOf (map taskOf ts)
+
+-- the answer is what the definition gives, seen through a view, or its refusal; want of memory says nothing
+abbrev pub Agrees : {A V : Type 0} → (A → V) → Result A ReadFault → Result V Fault → Type 0
+Agrees view (Ok a) defined = defined ≡ Ok (view a)
+Agrees view (Err (Refused f)) defined = defined ≡ Err f
+Agrees view (Err Memory) defined = Unit {0}
+
+-- the answer seen through a view
+abbrev pub seen : {A V E : Type 0} → (A → V) → Result A E → Result V E
+seen view (Ok a) = Ok (view a)
+seen view (Err e) = Err e

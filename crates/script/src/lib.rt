@@ -1,3 +1,5 @@
-// Scripts: their forms, how a whole script is read, and how it is printed.
-pub mod fault;
-pub mod form;
+// Scripts: how a whole script is read.
+mod draft;
+mod names;
+pub mod read;
+pub mod script;

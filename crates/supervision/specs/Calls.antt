@@ -12,7 +12,7 @@ use Rattle.keyed.specs.Members.{first}
 use Rattle.nodes.specs.Node.{serial-of, with-owner, released, vacated, taken, seats}
 use Rattle.links.specs.Link.{from}
 use Rattle.lineage.specs.Family.{Family, family, family-of, changed, open-for, aborted-at, node-free}
-use Rattle.lineage.specs.Births.{grown, stillborn, born, link-free}
+use Rattle.lineage.specs.Births.{grown, orphaned, born, link-free}
 use Rattle.lineage.specs.Deaths.{settled}
 use Rattle.lineage.specs.Walked.{to-mark}
 use Rattle.supervision.specs.declared.Refusal.{Refusal}
@@ -40,7 +40,7 @@ child-refusal task s F =
 
 -- a context under s, below an aborted node or any other
 abbrev pub with-child : ℕ → ℕ → Family → Family
-with-child task s F = cond (aborted-at s F) (stillborn task F) (born s task F)
+with-child task s F = cond (aborted-at s F) (orphaned task F) (born s task F)
 
 -- what `child` makes of the tree; refused, nothing
 abbrev pub after-child : ℕ → ℕ → Family → Family

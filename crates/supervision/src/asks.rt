@@ -1,9 +1,11 @@
 // What is asked of a tree.
 ghost use mathlib.Core.Path.{_≡_};
+ghost use mathlib.Core.Bool.{true};
 ghost use lib.ListN.{length};
 ghost use Rattle.keyed.specs.Choices.{answered};
 ghost use Rattle.lineage.specs.Family.{open-for, aborted-at, node-free};
 ghost use Rattle.lineage.specs.Births.{link-free};
+ghost use Rattle.supervision.specs.Laws.{All-aborted};
 ghost use Rattle.supervision.specs.Calls.{view, given-tasks, child-refusal, context-refusal, link-count, seat-of};
 use crate::Refusal;
 use crate::Tree;
@@ -20,6 +22,13 @@ impl Tree {
         self.nodes.len()
     }
 
+    // The serial that the next context gets.
+    pub fn next_serial(&self) -> u64
+        ensures { λ r. ⌜ r ≡ view (now (self .entry)) .next ⌝ }
+    {
+        self.nodes.next_serial()
+    }
+
     // Whether the context is open and the task holds it.
     pub fn is_open(&self, task: u64, context: u64) -> bool
         ensures { λ r. ⌜ r ≡ open-for task context (view (now (self .entry))) ⌝ }
@@ -30,8 +39,16 @@ impl Tree {
         }
     }
 
-    // Whether the context's node is aborted.
+    // Whether the context's node is aborted; then all that lives under it is aborted too.
     pub fn is_aborted(&self, context: u64) -> bool
+        ensures answer { λ r. ⌜ r ≡ aborted-at context (view (now (self .entry))) ⌝ }
+        ensures law { λ r. ⌜ (r ≡ true → All-aborted context (view (now (self .entry)))) ⌝ }
+    {
+        self.flag(context)
+    }
+
+    // The flag of the context's node; a dead node has none.
+    fn flag(&self, context: u64) -> bool
         ensures { λ r. ⌜ r ≡ aborted-at context (view (now (self .entry))) ⌝ }
     {
         match self.nodes.find(context) {

@@ -1,11 +1,12 @@
 // The calls that make contexts and spend them.
 ghost use mathlib.Core.Path.{_≡_};
 ghost use mathlib.Core.Bool.{true, false};
-ghost use Prim.Native.Nat.{_+_, _<_, _^_};
+ghost use Prim.Native.Nat.{_+_, _<_, _≤_, _^_};
 ghost use Rattle.std.specs.Vec.{made};
 ghost use Rattle.keyed.specs.Choices.{answered};
 ghost use Rattle.lineage.specs.Family.{open-for, aborted-at, node-free};
 ghost use Rattle.lineage.specs.Births.{link-free};
+ghost use Rattle.supervision.specs.Laws.{Aged};
 ghost use Rattle.supervision.specs.Calls.{view, founded, child-refusal, after-child, context-refusal, closed, after-close, seated};
 use crate::Refusal;
 use crate::Tree;
@@ -38,6 +39,8 @@ impl Tree {
         requires fits { ⌜ view (now self) .next + 1 < 2 ^ 64 ⌝ }
         ensures answer { λ r. ⌜ r ≡ answered (child-refusal task context (view (now (self .entry)))) (view (now (self .entry)) .next, aborted-at context (view (now (self .entry)))) ⌝ }
         ensures state { λ _. ⌜ view (now (self .exit)) ≡ after-child task context (view (now (self .entry))) ⌝ }
+        ensures serials { λ _. ⌜ Aged (view (now (self .entry))) (view (now (self .exit))) ⌝ }
+        ensures next { λ _. ⌜ view (now (self .exit)) .next ≤ view (now (self .entry)) .next + 1 ⌝ }
     {
         if let Some(refusal) = self.child_refusal(task, context) {
             return Err(refusal);
@@ -54,6 +57,8 @@ impl Tree {
     pub fn close(&mut self, task: u64, context: u64) -> Result<(), Refusal>
         ensures answer { λ r. ⌜ r ≡ answered (context-refusal task context (view (now (self .entry)))) tt ⌝ }
         ensures state { λ _. ⌜ view (now (self .exit)) ≡ after-close task context (view (now (self .entry))) ⌝ }
+        ensures serials { λ _. ⌜ Aged (view (now (self .entry))) (view (now (self .exit))) ⌝ }
+        ensures next { λ _. ⌜ view (now (self .exit)) .next ≡ view (now (self .entry)) .next ⌝ }
     {
         if !self.is_open(task, context) {
             return Err(Refusal::NotOpen);
@@ -65,6 +70,8 @@ impl Tree {
     // Spends the context where no task can be seated.
     pub fn spend(&mut self, context: u64)
         ensures state { λ _. ⌜ view (now (self .exit)) ≡ closed context (view (now (self .entry))) ⌝ }
+        ensures serials { λ _. ⌜ Aged (view (now (self .entry))) (view (now (self .exit))) ⌝ }
+        ensures next { λ _. ⌜ view (now (self .exit)) .next ≡ view (now (self .entry)) .next ⌝ }
     {
         self.nodes.release(context);
         settle(&mut self.nodes, &mut self.links);
@@ -80,6 +87,8 @@ impl Tree {
         requires fits { ⌜ view (now self) .next + 1 < 2 ^ 64 ⌝ }
         ensures answer { λ r. ⌜ r ≡ view (now (self .entry)) .next ⌝ }
         ensures state { λ _. ⌜ view (now (self .exit)) ≡ seated context task (view (now (self .entry))) ⌝ }
+        ensures serials { λ _. ⌜ Aged (view (now (self .entry))) (view (now (self .exit))) ⌝ }
+        ensures next { λ _. ⌜ view (now (self .exit)) .next ≡ view (now (self .entry)) .next + 1 ⌝ }
     {
         let serial = bear(&mut self.nodes, &mut self.links, context, task);
         self.nodes.seat(context, task);

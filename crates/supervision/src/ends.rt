@@ -2,6 +2,7 @@
 // aborted, and at last it leaves its node.
 ghost use mathlib.Core.Path.{_≡_};
 ghost use Rattle.lineage.specs.Cascade.{cascaded};
+ghost use Rattle.supervision.specs.Laws.{Cascaded, Aged};
 ghost use Rattle.supervision.specs.Calls.{view, given-tasks, closed-all, left};
 use crate::Tree;
 use lineage::deaths::settle;
@@ -10,6 +11,8 @@ impl Tree {
     // Closes every context that the task holds.
     pub fn close_all(&mut self, task: u64)
         ensures state { λ _. ⌜ view (now (self .exit)) ≡ closed-all task (view (now (self .entry))) ⌝ }
+        ensures serials { λ _. ⌜ Aged (view (now (self .entry))) (view (now (self .exit))) ⌝ }
+        ensures next { λ _. ⌜ view (now (self .exit)) .next ≡ view (now (self .entry)) .next ⌝ }
     {
         self.nodes.release_all(task);
         settle(&mut self.nodes, &mut self.links);
@@ -21,6 +24,9 @@ impl Tree {
     pub fn cascade(&mut self, node: u64)
         ensures state { λ _. ⌜ view (now (self .exit)) ≡ cascaded node (view (now (self .entry))) .0 ⌝ }
         ensures marks { λ _. ⌜ given-tasks (now (self .exit)) ≡ cascaded node (view (now (self .entry))) .1 ⌝ }
+        ensures law { λ _. ⌜ Cascaded (view (now (self .entry))) (view (now (self .exit))) node (given-tasks (now (self .exit))) ⌝ }
+        ensures serials { λ _. ⌜ Aged (view (now (self .entry))) (view (now (self .exit))) ⌝ }
+        ensures next { λ _. ⌜ view (now (self .exit)) .next ≡ view (now (self .entry)) .next ⌝ }
     {
         self.walk.abort(&mut self.nodes, &mut self.links, node);
     }
@@ -28,6 +34,8 @@ impl Tree {
     // The task, which has ended, leaves its node.
     pub fn leave(&mut self, task: u64)
         ensures state { λ _. ⌜ view (now (self .exit)) ≡ left task (view (now (self .entry))) ⌝ }
+        ensures serials { λ _. ⌜ Aged (view (now (self .entry))) (view (now (self .exit))) ⌝ }
+        ensures next { λ _. ⌜ view (now (self .exit)) .next ≡ view (now (self .entry)) .next ⌝ }
     {
         self.nodes.vacate(task);
         settle(&mut self.nodes, &mut self.links);

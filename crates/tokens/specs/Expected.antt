@@ -4,6 +4,7 @@ use mathlib.Core.List.{List, [], _∷_}
 use Prim.Native.Nat.{ℕ}
 use Rattle.std.specs.declared.option.Option.{Option}
 use Rattle.std.specs.declared.option.Option.the-variants.{Some, None}
+use Rattle.tokens.specs.Cursor.{later}
 use Rattle.tokens.specs.Tokens.{Mark, opening, closing, word, number, stray}
 
 -- an opening bracket comes first
@@ -55,3 +56,12 @@ closes (closing ∷ ms) = isOver ms
 closes (word w ∷ ms) = false
 closes (number w ∷ ms) = false
 closes (stray ∷ ms) = false
+
+-- what is ahead once it was asked whether the form closes: behind a closing bracket the end of the line was looked for too
+abbrev pub afterCloses : List Mark → List Mark
+afterCloses [] = []
+afterCloses (opening ∷ ms) = ms
+afterCloses (closing ∷ ms) = later ms
+afterCloses (word w ∷ ms) = ms
+afterCloses (number w ∷ ms) = ms
+afterCloses (stray ∷ ms) = stray ∷ ms

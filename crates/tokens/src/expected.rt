@@ -2,7 +2,7 @@
 ghost use mathlib.Core.Path.{_≡_};
 ghost use Rattle.std.specs.Options.{mapped};
 ghost use Rattle.tokens.specs.Cursor.{ahead, later};
-ghost use Rattle.tokens.specs.Expected.{opens, firstWord, firstNumber, firstName, isOver, closes};
+ghost use Rattle.tokens.specs.Expected.{opens, firstWord, firstNumber, firstName, closes, afterCloses};
 use crate::cursor::Tokens;
 use crate::token::Token;
 
@@ -51,6 +51,7 @@ impl<'a> Tokens<'a> {
     // Whether a closing bracket comes next, and ends the line.
     pub fn closes(&mut self) -> bool
         ensures answer { λ r. ⌜ r ≡ closes (ahead (now (self .entry))) ⌝ }
+        ensures state { λ _. ⌜ ahead (now (self .exit)) ≡ afterCloses (ahead (now (self .entry))) ⌝ }
     {
         matches!(self.next(), Ok(Some(Token::Close))) && matches!(self.next(), Ok(None))
     }

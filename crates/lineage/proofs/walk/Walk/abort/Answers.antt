@@ -9,7 +9,7 @@ use Rattle.nodes.specs.Living.{living}
 use Rattle.links.specs.Linked.{linked}
 use Rattle.lineage.specs.Family.{family-of}
 use Rattle.lineage.specs.Walked.{to-mark, to-visit}
-use Rattle.lineage.proofs.Visits.{quick-few, turn-falls, turn-room}
+use Rattle.lineage.proofs.Visits.{unaborted-few, turn-falls, turn-room}
 use Rattle.lineage.proofs.Going.{going-start, going-more, going-end}
 use Rattle.lineage.proofs.walk.Walk.abort.Needs as need
 
@@ -20,7 +20,7 @@ loop-next-holds c =
     let none = ap length (c .clear-2 .ensures .items) in (
       going-start _ (family-of (c .args .nodes .now) (c .args .links .now)) (c .args .top) _ _ (omega (arith, long)) one (c .clear-2 .ensures .items),
       omega (arith, long, c .args .links .now .few, c .args .links .now .list .ok .0),
-      omega (arith, none, quick-few (living (c .args .nodes .now)), c .args .nodes .now .few, c .args .nodes .now .list .ok .0),
+      omega (arith, none, unaborted-few (living (c .args .nodes .now)), c .args .nodes .now .few, c .args .nodes .now .list .ok .0),
     )
 
 -- the turn that the loop has made

@@ -13,12 +13,12 @@ use Rattle.lineage.specs.Family.{family-of}
 use Rattle.lineage.specs.Cascade.{Step, condemned}
 use Rattle.lineage.specs.Walked.{to-visit, to-mark}
 use Rattle.lineage.proofs.Newborn.{same-family}
-use Rattle.lineage.proofs.Visits.{step-dead, step-passed, step-struck, quick-hit}
+use Rattle.lineage.proofs.Visits.{step-dead, step-passed, step-struck, unaborted-hit}
 use Rattle.lineage.proofs.walk.Walk.visit.Needs as need
 
 pub note-requires : need.note-requires
 note-requires c κs =
-    let hit = quick-hit (c .args .serial) (living (c .args .nodes .now)) (c .in-Some .node) (sym (c .in-Some .ensures tt)) (c .if-node .left) in
+    let hit = unaborted-hit (c .args .serial) (living (c .args .nodes .now)) (c .in-Some .node) (sym (c .in-Some .ensures tt)) (c .if-node .left) in
     omega (arith, hit, c .pre .marks)
 
 pub gather-requires : need.gather-requires

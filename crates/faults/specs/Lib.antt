@@ -1,0 +1,3 @@
+-- Definitions of refusals.
+pub mod Faults
+pub mod Shown

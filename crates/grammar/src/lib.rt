@@ -1,0 +1,1 @@
+// What the bytes of a script say: definitions alone. The code that reads and prints scripts cites them.

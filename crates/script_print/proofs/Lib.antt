@@ -1,0 +1,2 @@
+-- Lemmas on bytes that grow at their end.
+mod Growing

@@ -1,0 +1,9 @@
+pub mod Solid
+pub mod Dying
+pub mod Newborn
+pub mod Keeping
+pub mod Whole
+pub mod Struck
+pub mod Walking
+pub mod Counting
+pub mod Ages
