@@ -17,8 +17,9 @@ use Rattle.reasons.specs.declared.end.End.{End}
 use Rattle.reasons.specs.declared.end.End.the-variants as end
 use Rattle.forms.specs.Meaning.{Act, sleep, spawn, wake, await, done, Task, Plan}
 use Rattle.deterministic.specs.declared.counts.Counts.{Counts}
-use Rattle.deterministic.specs.Run.{Final, Finish, root-done, timed-out, stalled}
-use Rattle.deterministic.specs.Start.{Settings, run, report-of}
+use Rattle.deterministic.specs.Model.{Model}
+use Rattle.deterministic.specs.Calls.{Call, child, close, apply, links-answer}
+use Rattle.deterministic.specs.Start.{Settings, Finished, started, run, finished}
 use Rattle.crews.specs.Script.{Troupe, Refused, troupe, script-rule}
 
 -- so many times the same entry
@@ -35,8 +36,8 @@ abbrev pub keep : Unit {0} → (ids : List ℕ) → Order (Unit {0}) ℕ ids
 keep v ids = kept v ids
 
 -- a script is rehearsed over a ledger of 2,048 entries, and no order is changed
-abbrev pub rehearsed : Plan → Final Troupe (Unit {0})
-rehearsed p = run script-rule keep (settings-of p) (blanks 2048) (troupe p) tt
+abbrev pub rehearsed : Plan → Finished Troupe (Unit {0})
+rehearsed p = finished (run script-rule keep (settings-of p) (blanks 2048) (troupe p) tt)
 
 -- all that a rehearsal tells
 pub record Told : Type 0 where
@@ -44,19 +45,21 @@ pub record Told : Type 0 where
   pub report : Report
   pub time : ℕ
   pub digest : List ℕ
-  pub finish : Finish
+  pub end : End
+  pub value : Option ℤ
   pub counts : Counts
   pub refused : Option Refused
 
 -- what a run that has ended tells
-abbrev pub told : Final Troupe (Unit {0}) → Told
+abbrev pub told : Finished Troupe (Unit {0}) → Told
 told f = record {
-  log = f .model .ledger .log;
-  report = report-of (f .model);
-  time = f .model .clock .time;
-  digest = f .model .digest;
-  finish = f .finish;
-  counts = f .model .counts;
+  log = f .ledger .log;
+  report = f .report;
+  time = f .time;
+  digest = f .digest;
+  end = f .end;
+  value = f .value;
+  counts = f .counts;
   refused = f .crew .refused;
 }
 
@@ -86,7 +89,8 @@ heat-told = record {
   report = record { rounds = 3; dealt = 4; undealt = 0; registered = 2; woken = 2 };
   time = 50;
   digest = 0x23 ∷ 0x07 ∷ 0x1c ∷ 0x62 ∷ [];
-  finish = root-done (pos 7);
+  end = end.RootDone;
+  value = Some (pos 7);
   counts = record { iterations = 3; spawned = 1; running = 0; polls = 4 };
   refused = None;
 }
@@ -98,7 +102,8 @@ heat-out-of-time = record {
   report = record { rounds = 2; dealt = 3; undealt = 0; registered = 2; woken = 1 };
   time = 50;
   digest = 0x45 ∷ 0xfb ∷ 0x45 ∷ 0xa9 ∷ [];
-  finish = timed-out;
+  end = end.Timeout;
+  value = None;
   counts = record { iterations = 2; spawned = 1; running = 0; polls = 3 };
   refused = None;
 }
@@ -110,7 +115,8 @@ heat-not-begun = record {
   report = record { rounds = 0; dealt = 0; undealt = 1; registered = 1; woken = 0 };
   time = 0;
   digest = 0 ∷ 0 ∷ 0 ∷ 0 ∷ [];
-  finish = timed-out;
+  end = end.Timeout;
+  value = None;
   counts = record { iterations = 0; spawned = 0; running = 0; polls = 0 };
   refused = None;
 }
@@ -132,7 +138,8 @@ stalls-at-once = record {
   report = record { rounds = 0; dealt = 1; undealt = 0; registered = 1; woken = 0 };
   time = 10;
   digest = 0x3e ∷ 0x98 ∷ 0x6d ∷ 0x42 ∷ [];
-  finish = stalled;
+  end = end.Stalled;
+  value = None;
   counts = record { iterations = 0; spawned = 0; running = 0; polls = 1 };
   refused = None;
 }
@@ -160,16 +167,26 @@ dealt-three-times = record {
   report = record { rounds = 3; dealt = 6; undealt = 0; registered = 2; woken = 4 };
   time = 50;
   digest = 0x53 ∷ 0xaf ∷ 0xbe ∷ 0xa0 ∷ [];
-  finish = root-done (pos 7);
+  end = end.RootDone;
+  value = Some (pos 7);
   counts = record { iterations = 3; spawned = 1; running = 0; polls = 6 };
   refused = None;
 }
+
+-- the root's context has so many children, whose contexts are closed one after another: this is the next one's serial
+unfoldable pub bereaved : ℕ → ℕ → List Call
+bereaved zero serial = []
+bereaved (suc n) serial = child 0 ∷ close serial ∷ bereaved n (suc serial)
+
+-- so many children of the root's context die, and then one more is born: how many links the context has
+abbrev pub links-after : ℕ → ℕ
+links-after dead = links-answer 0 (apply (bereaved dead 1 ++ child 0 ∷ []) (started (settings-of waiting-root) (blanks 1024)))
 
 -- a rehearsal of the script tells this
 abbrev pub Tells : Plan → Told → Type 0
 Tells p t = told (rehearsed p) ≡ t
 
--- the rehearsals, each by what happens in it
+-- the rehearsals and situations, each by what happens in it
 pub record Rehearsals : Type 0 where
   pub heat-is-done : Tells (heat None) heat-told
   pub timeout-at-the-jump : Tells (heat (Some 50)) heat-out-of-time
@@ -177,3 +194,5 @@ pub record Rehearsals : Type 0 where
   pub timeout-before-the-first-round : Tells (heat (Some 0)) heat-not-begun
   pub root-that-awaits-stalls : Tells waiting-root stalls-at-once
   pub woken-twice-is-dealt-three-times : Tells heat-woken-twice dealt-three-times
+  pub thirty-one-dead-links-stay : links-after 31 ≡ 32
+  pub thirty-two-dead-links-go : links-after 32 ≡ 1

@@ -259,11 +259,11 @@ abbrev pub after : Call → Model → Model
 after c m = moves (doings c m) m
 
 -- the executor after calls, one after another
-unfoldable pub apply : List Call → Model → Model
+abbrev pub apply : List Call → Model → Model
 apply [] m = m
 apply (c ∷ cs) m = apply cs (after c m)
 
 -- the moves of calls, one after another
-unfoldable pub doings-of : List Call → Model → List Move
+abbrev pub doings-of : List Call → Model → List Move
 doings-of [] m = []
 doings-of (c ∷ cs) m = doings c m ++ doings-of cs (after c m)

@@ -141,7 +141,7 @@ move (grow g) m = with-tree (grown g (m .tree)) m
 move (quiet q) m = quieted q m
 
 -- the executor after moves, one after another
-unfoldable pub moves : List Move → Model → Model
+abbrev pub moves : List Move → Model → Model
 moves [] m = m
 moves (a ∷ more) m = moves more (move a m)
 
