@@ -1,7 +1,7 @@
 -- What the calls on alarms keep, in the words of alarms and times.
 use mathlib.Core.Path.{_≡_}
 use mathlib.Core.Bool.{not}
-use mathlib.Core.List.{List, [], _∷_}
+use mathlib.Core.List.{List, [], _∷_, _++_}
 use mathlib.Core.Logic.{_⊎_}
 use Prim.Native.Nat.{ℕ, _<_, _≤_}
 use lib.Dec.{leb}
@@ -15,7 +15,7 @@ use Rattle.keyed.specs.Members.{In}
 use Rattle.alarms.specs.declared.Alarm.{Alarm}
 use Rattle.alarms.specs.declared.Full.{Full}
 use Rattle.alarms.specs.Order.{most-alarms}
-use Rattle.alarms.specs.Model.{Bells}
+use Rattle.alarms.specs.Model.{Bells, first-due, without-first-due}
 
 -- the first rings before the second: it is earlier, or as early and armed first
 abbrev pub Before : Alarm → Alarm → Type 0
@@ -48,6 +48,17 @@ abbrev pub Rings : ℕ → List Alarm → List Alarm → Option Alarm → Type 0
 Rings now standing rest None = Rings-none now standing rest
 Rings now standing rest (Some a) = Rings-first now standing rest a
 
+-- rings at one time, one after another until none is due, take the alarms of the first list in its order and leave the last list
+abbrev pub Rung-out : ℕ → List Alarm → List Alarm → List Alarm → Type 0
+Rung-out now [] standing rest = (first-due now standing ≡ None) × (rest ≡ standing)
+Rung-out now (a ∷ rang) standing rest = (first-due now standing ≡ Some a) × Rung-out now rang (without-first-due now standing) rest
+
+-- a whole ringing at a time rings exactly the alarms that are due, in the order in which they stand, and leaves exactly the later ones, which stand behind those
+pub record Whole-ringing (now : ℕ) (standing : List Alarm) : Type 0 where
+  pub ends : Rung-out now (due now standing) standing (later now standing)
+  pub only : (rang rest : List Alarm) → Rung-out now rang standing rest → (rang ≡ due now standing) × (rest ≡ later now standing)
+  pub in-front : due now standing ++ later now standing ≡ standing
+
 -- a time is the least: an alarm stands for it, and none stands for an earlier one
 pub record Least (standing : List Alarm) (t : ℕ) : Type 0 where
   pub alarm : Alarm
@@ -60,8 +71,9 @@ abbrev pub Earliest : List Alarm → Option ℕ → Type 0
 Earliest standing None = standing ≡ []
 Earliest standing (Some t) = Least standing t
 
--- the serial of an arming is new: every alarm that stands has a lower one, and the next serial is above it
+-- the serial of an arming is new: it is the next serial, every alarm that stands has a lower one, and the next serial is then above it, so that none is given twice
 pub record Rises (was is : Bells) (serial : ℕ) : Type 0 where
+  pub counted : serial ≡ was .next
   pub new : All (λ a. a .serial < serial) (was .alarms)
   pub above : serial < is .next
 
@@ -70,7 +82,13 @@ abbrev pub Arms : Bells → Bells → Result ℕ Full → Type 0
 Arms was is (Ok serial) = Rises was is serial
 Arms was is (Err full) = (most-alarms ≤ length (was .alarms)) × (is ≡ was)
 
--- a search by serial finds an alarm that stands and has it, and none only if no alarm that stands has it
+-- an alarm stands, has the serial, and is the only one that has it
+pub record Only-with (serial : ℕ) (standing : List Alarm) (a : Alarm) : Type 0 where
+  pub stands : In a standing
+  pub has : a .serial ≡ serial
+  pub only : (b : Alarm) → In b standing → b .serial ≡ serial → b ≡ a
+
+-- a search by serial finds the only alarm that stands and has it, and none only if no alarm that stands has it
 abbrev pub Finds : ℕ → List Alarm → Option Alarm → Type 0
 Finds serial standing None = (a : Alarm) → In a standing → a .serial ≡ serial → ⊥
-Finds serial standing (Some a) = In a standing × (a .serial ≡ serial)
+Finds serial standing (Some a) = Only-with serial standing a

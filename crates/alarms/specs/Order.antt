@@ -3,8 +3,9 @@
 -- most-alarms   the bound on how many stand
 -- before        one alarm rings before another
 -- leads         an alarm rings before each of a list
--- ordered       a list stands in ringing order, its serials below a bound
-use mathlib.Core.Bool.{Bool, true, _&&_, _||_}
+-- unused        no alarm of a list has a serial
+-- ordered       a list stands in ringing order, its serials distinct and below a bound
+use mathlib.Core.Bool.{Bool, true, not, _&&_, _||_}
 use mathlib.Core.List.{List, [], _∷_}
 use Prim.Native.Nat.{ℕ}
 use lib.Dec.{eqb, ltb}
@@ -23,7 +24,12 @@ abbrev pub leads : Alarm → List Alarm → Bool
 leads a [] = true
 leads a (b ∷ bs) = before a b && leads a bs
 
--- each alarm rings before those behind it, and every serial is below next
+-- no alarm of the list has the serial
+abbrev pub unused : ℕ → List Alarm → Bool
+unused serial [] = true
+unused serial (b ∷ bs) = not (eqb (b .serial) serial) && unused serial bs
+
+-- each alarm rings before those behind it, none of which has its serial, and every serial is below next
 abbrev pub ordered : ℕ → List Alarm → Bool
 ordered next [] = true
-ordered next (a ∷ more) = ltb (a .serial) next && (leads a more && ordered next more)
+ordered next (a ∷ more) = ltb (a .serial) next && (leads a more && (unused (a .serial) more && ordered next more))

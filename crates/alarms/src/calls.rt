@@ -8,7 +8,7 @@ ghost use Rattle.std.specs.Of.Vec.{vec-items, vec-len, vec-cap};
 ghost use Rattle.std.specs.Vec.{made};
 ghost use Rattle.alarms.specs.Order.{most-alarms};
 ghost use Rattle.alarms.specs.Model.{view, silent, placed, added, armed, arm-answer, earliest, first-due, rung, has-serial, found, is-for};
-ghost use Rattle.alarms.specs.Laws.{Arms, Earliest, Rings, Finds};
+ghost use Rattle.alarms.specs.Laws.{Arms, Earliest, Rings, Whole-ringing, Finds};
 use crate::Alarm;
 use crate::Alarms;
 use crate::Full;
@@ -123,6 +123,7 @@ impl Alarms {
         ensures answer { λ r. ⌜ r ≡ first-due clock (view (now (self .entry)) .alarms) ⌝ }
         ensures state { λ _. ⌜ view (now (self .exit)) ≡ rung clock (view (now (self .entry))) ⌝ }
         ensures first { λ r. ⌜ Rings clock (view (now (self .entry)) .alarms) (view (now (self .exit)) .alarms) r ⌝ }
+        ensures whole { λ _. ⌜ Whole-ringing clock (view (now (self .entry)) .alarms) ⌝ }
     {
         self.take_due(clock)
     }

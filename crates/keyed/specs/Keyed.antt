@@ -11,7 +11,7 @@ use Rattle.std.specs.declared.option.Option.{Option}
 use Rattle.std.specs.declared.option.Option.the-variants.{Some, None}
 
 module _ {X : Type 0} (key : X → ℕ) where
-  -- the keys rise from low on, each above the one before, and stay below high
+  -- the keys rise from low on, each above the one before, and stay below high; where there is none, low is at most high
   abbrev pub ordered : ℕ → ℕ → List X → Bool
   ordered low high [] = leb low high
   ordered low high (x ∷ xs) = leb low (key x) && ordered (suc (key x)) high xs

@@ -29,7 +29,7 @@ taken new Open = Open
 taken new Awaited = Awaited
 taken new Closed = Closed
 
--- a task that asks its open signal waits for the stop
+-- a task that asks its open signal before the stop waits for the stop
 abbrev pub awaited : Signal → Signal
 awaited Absent = Absent
 awaited Open = Awaited
@@ -70,7 +70,7 @@ open-signal Open = true
 open-signal Awaited = true
 open-signal Closed = false
 
--- a signal is held that was taken before the stop and asked since
+-- a signal is held that was taken before the stop and asked before the stop
 abbrev waiting-signal : Signal → Bool
 waiting-signal Absent = false
 waiting-signal Open = false

@@ -11,9 +11,9 @@ ghost use Rattle.roster.specs.Row.{task-of, fresh, stepped, is-open, holds, li
 pub enum Signal {
     // It has taken none, or let it go.
     Absent,
-    // It took one before the stop, and has not asked it since.
+    // It took one before the stop, and had not asked it before the stop. Asking it after the stop leaves it so.
     Open,
-    // It took one before the stop, asked it, and waits for the stop.
+    // It took one before the stop, and asked it before the stop: it waits for the stop, which leaves it so.
     Awaited,
     // It took one after the stop.
     Closed,

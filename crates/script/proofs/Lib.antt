@@ -1,4 +1,3 @@
--- Lemmas on drafts and on the names of tasks.
-mod Naming
+-- Lemmas on drafts and on lines taken one after another.
 mod Places
 mod Telling

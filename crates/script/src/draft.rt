@@ -7,8 +7,6 @@ ghost use Rattle.grammar.specs.Reading.{blank, drafted, hasRoom, inPlace, plann
 ghost use Rattle.script.specs.Drafts.{isGiven, objection, onLine, saidIn, AgreesAt};
 ghost use Rattle.script.specs.Views.{scriptOf, seen};
 ghost use Rattle.script.specs.declared.draft.DraftFault.the-variants as fault;
-use crate::names::is_among;
-use crate::names::misnamed_line;
 use crate::script::Script;
 use faults::fault::Fault;
 use faults::fault::Reason;
@@ -18,6 +16,8 @@ use forms::form::Form;
 use forms::form::Setting;
 use forms::form::TaskForm;
 use forms::reader::read_form;
+use names::is_among;
+use names::misnamed_line;
 use std::alloc::Global;
 use std::alloc::Refused;
 

@@ -49,7 +49,7 @@ fn settle(switch: &Switch, roster: &Roster, completion: &mut OneShot<()>, woken:
 impl Stopper {
     // Running, with no task yet and the memory for MOST_TASKS of them.
     pub fn new(heap: Global) -> Result<Stopper, AllocError>
-        ensures made { λ r. ⌜ made r (λ s. view s ≡ unstopped) ⌝ }
+        ensures made { λ r. ⌜ made r (λ s. (view s ≡ unstopped) × (woken-by s ≡ [])) ⌝ }
     {
         let woken = Vec::with_capacity(heap, MOST_TASKS)?;
         let roster = Roster::new(heap)?;
@@ -67,6 +67,7 @@ impl Stopper {
         requires fits { ⌜ task + 1 < 2 ^ 64 ⌝ }
         requires few { ⌜ length (view (now self) .roll .rows) < most-tasks ⌝ }
         ensures state { λ _. ⌜ view (now (self .exit)) ≡ entered task (view (now (self .entry))) ⌝ }
+        ensures woken { λ _. ⌜ woken-by (now (self .exit)) ≡ woken-by (now (self .entry)) ⌝ }
         ensures keeps { λ _. ⌜ Keeps (view (now (self .entry))) (view (now (self .exit))) ⌝ }
     {
         self.roster.register(task);
@@ -75,6 +76,7 @@ impl Stopper {
     // Gives the task a signal, unless it holds one: open before the stop, closed after it.
     pub fn stopped(&mut self, task: u64)
         ensures state { λ _. ⌜ view (now (self .exit)) ≡ given task (view (now (self .entry))) ⌝ }
+        ensures woken { λ _. ⌜ woken-by (now (self .exit)) ≡ woken-by (now (self .entry)) ⌝ }
         ensures keeps { λ _. ⌜ Keeps (view (now (self .entry))) (view (now (self .exit))) ⌝ }
     {
         let step = self.switch.offer();
@@ -85,6 +87,7 @@ impl Stopper {
     pub fn signal(&mut self, task: u64) -> Result<Poll<i32>, Refusal>
         ensures answer { λ r. ⌜ r ≡ signal-answer task (view (now (self .entry))) ⌝ }
         ensures state { λ _. ⌜ view (now (self .exit)) ≡ awaiting task (view (now (self .entry))) ⌝ }
+        ensures woken { λ _. ⌜ woken-by (now (self .exit)) ≡ woken-by (now (self .entry)) ⌝ }
         ensures keeps { λ _. ⌜ Keeps (view (now (self .entry))) (view (now (self .exit))) ⌝ }
     {
         if !self.roster.holds(task) {
@@ -125,6 +128,7 @@ impl Stopper {
     pub fn completed(&mut self, task: u64) -> Result<Poll<()>, Refusal>
         ensures answer { λ r. ⌜ r ≡ completed-answer (view (now (self .entry))) ⌝ }
         ensures state { λ _. ⌜ view (now (self .exit)) ≡ asking task (view (now (self .entry))) ⌝ }
+        ensures woken { λ _. ⌜ woken-by (now (self .exit)) ≡ woken-by (now (self .entry)) ⌝ }
         ensures keeps { λ _. ⌜ Keeps (view (now (self .entry))) (view (now (self .exit))) ⌝ }
     {
         if !self.switch.is_stopped() {

@@ -2,9 +2,9 @@ use mathlib.Core.Path.{sym, _∙_}
 use mathlib.Core.Bool.{true, false}
 use Rattle.std.proofs.shelf.Lists.{at-drop-all}
 use Rattle.grammar.specs.Reading.{isAmong}
-use Rattle.script.specs.Views.{namesIn}
-use Rattle.script.proofs.Naming.{isAmong-turn, isAmong-none}
-use Rattle.script.proofs.names.is_among.Needs as need
+use Rattle.names.specs.Names.{namesIn}
+use Rattle.names.proofs.Naming.{isAmong-turn, isAmong-none}
+use Rattle.names.proofs.is_among.Needs as need
 
 pub returns-then-same-bytes : need.returns-then-same-bytes
 returns-then-same-bytes c =

@@ -13,7 +13,7 @@ use Rattle.forms.specs.declared.form.TaskForm.{TaskForm}
 use Rattle.forms.specs.Meaning.{Task}
 use Rattle.forms.specs.Views.{actOf, taskOf}
 use Rattle.grammar.specs.Reading.{isAmong, namesOf, isKnown, allKnown, isNamed, misnamed}
-use Rattle.script.specs.Views.{namesIn}
+use Rattle.names.specs.Names.{namesIn}
 
 -- what is left of a list from an item on
 drop-item : {X : Type 0} (xs : List X) (i : ℕ) (x : X) → i < length xs → x ≡ getD xs i x → drop i xs ≡ x ∷ drop (i + 1) xs

@@ -3,8 +3,8 @@ use mathlib.Core.List.{[], map}
 use lib.ListN.{take, drop}
 use Rattle.forms.specs.Views.{taskOf}
 use Rattle.grammar.specs.Reading.{misnamed}
-use Rattle.script.specs.Views.{namesIn}
-use Rattle.script.proofs.names.misnamed_line.Given as given
+use Rattle.names.specs.Names.{namesIn}
+use Rattle.names.proofs.misnamed_line.Given as given
 
 abbrev pub Inv-loop-i : given.InvT-loop-i
 Inv-loop-i l =

@@ -3,7 +3,7 @@ ghost use mathlib.Core.Path.{_≡_};
 ghost use mathlib.Core.List.{[], map};
 ghost use Rattle.forms.specs.Views.{actOf, taskOf};
 ghost use Rattle.grammar.specs.Reading.{isAmong, isKnown, allKnown, isNamed, misnamed, namesOf};
-ghost use Rattle.script.specs.Views.{namesIn};
+ghost use Rattle.names.specs.Names.{namesIn};
 use forms::form::Step;
 use forms::form::TaskForm;
 use tokens::same::same_bytes;

@@ -5,9 +5,9 @@ use lib.ListN.{take}
 use Rattle.std.proofs.shelf.Lists.{at-drop-all}
 use Rattle.forms.specs.Views.{taskOf}
 use Rattle.grammar.specs.Reading.{isNamed, misnamed}
-use Rattle.script.specs.Views.{namesIn}
-use Rattle.script.proofs.Naming.{misnamed-start, misnamed-turn, misnamed-none}
-use Rattle.script.proofs.names.misnamed_line.Needs as need
+use Rattle.names.specs.Names.{namesIn}
+use Rattle.names.proofs.Naming.{misnamed-start, misnamed-turn, misnamed-none}
+use Rattle.names.proofs.misnamed_line.Needs as need
 
 pub loop-i-holds : need.loop-i-holds
 loop-i-holds c = misnamed-start (namesIn (c .args .tasks .now)) (map taskOf (c .args .tasks .now))

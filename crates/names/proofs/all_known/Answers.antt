@@ -4,9 +4,9 @@ use mathlib.Core.List.{map}
 use Rattle.std.proofs.shelf.Lists.{at-drop-all}
 use Rattle.forms.specs.Views.{actOf}
 use Rattle.grammar.specs.Reading.{allKnown}
-use Rattle.script.specs.Views.{namesIn}
-use Rattle.script.proofs.Naming.{allKnown-turn, allKnown-none}
-use Rattle.script.proofs.names.all_known.Needs as need
+use Rattle.names.specs.Names.{namesIn}
+use Rattle.names.proofs.Naming.{allKnown-turn, allKnown-none}
+use Rattle.names.proofs.all_known.Needs as need
 
 pub returns-then-not-is-known : need.returns-then-not-is-known
 returns-then-not-is-known c =

@@ -1,0 +1,2 @@
+-- The names that tasks have.
+pub mod Names
