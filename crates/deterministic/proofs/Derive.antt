@@ -21,7 +21,10 @@ use Rattle.deterministic.specs.Moves.{Move, moves, after-doing}
 use Rattle.deterministic.specs.Calls.{Call, apply, doings-of}
 use Rattle.deterministic.specs.Ending.{ending-of}
 use Rattle.deterministic.specs.Rules.{Turn}
-use Rattle.deterministic.specs.Run as run
+use Rattle.deterministic.specs.Start as run
+use Rattle.deterministic.specs.Start.{Settings, idle, started}
+use Rattle.deterministic.specs.Facts.{Has-gone}
+use Rattle.entry.specs.declared.Entry.{Entry}
 use Rattle.deterministic.specs.Run.{Finish, ledger-spent, faulted, timed-out, stalled, clock-spent, Stage, stage, Final, final, expired, opened, skipped, polled, called, settle, finish-of, ticked, leapt, leapt-to, jump, if-later, rung, completed, ended, deals, deal, deal-task, dealt, close, close-moved, close-rung, rounds}
 use Rattle.deterministic.specs.Acts.{Act, did, poll, skip, call}
 use Rattle.deterministic.specs.History.{Round, Close, never}
@@ -37,6 +40,7 @@ found-id i (u ∷ ts) t e = go (eqb (u .id) i) refl e (found-id i ts t) where
   or-this : Task → Option Task → Task
   or-this x None = x
   or-this x (Some y) = y
+
   go : (b : Bool) → eqb (u .id) i ≡ b → cond b (Some u) (find id-of i ts) ≡ Some t → (find id-of i ts ≡ Some t → t .id ≡ i) → t .id ≡ i
   go true p q f = ap (λ (o : Option Task). or-this u o .id) (sym q) ∙ eqb-true _ _ p
   go false p q f = f q
@@ -239,3 +243,9 @@ module _ {V : Type 0} (rule : V → ℕ → Model → Turn V) where
         let r = rounds-derive n (s .crew) (arranged rule arrange w m) (s .model) (omega (arith, dealt-free ids v m e)) in
         (p .0 ∷ r .0, went.on (expired-not m x) (subst (λ (y : Option Finish). Plays rule arrange v w m (p .0) (s .crew) (arranged rule arrange w m) (s .model) y) e (p .1)) (r .1)))
         (λ f e. (p .0 ∷ [], went.over (expired-not m x) (subst (λ (y : Option Finish). Plays rule arrange v w m (p .0) (s .crew) (arranged rule arrange w m) (s .model) y) e (p .1)))))
+
+    -- a run from the start goes by the rules
+    pub run-derives : (s : Settings) (memory : List Entry) (v : V) (w : W) → Has-gone rule arrange s memory v w (run.run rule arrange s memory v w)
+    run-derives s memory v w =
+        let r = rounds-derive (suc (length memory)) v w (started s memory) (omega (arith, written-free (idle s memory))) in
+        record { history = r .0; by = r .1 }

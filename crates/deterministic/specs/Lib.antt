@@ -11,3 +11,4 @@ pub mod Below
 pub mod Acts
 pub mod History
 pub mod Went
+pub mod Facts
