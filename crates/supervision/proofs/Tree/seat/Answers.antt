@@ -22,6 +22,7 @@ returns c =
     record {
       answer = c .bear-serial .ensures .serial;
       state = same;
+      marks = refl;
       serials = subst (Aged (view (c .args .self .now))) (sym same) (aged-seated (c .args .context) (c .args .task) (view (c .args .self .now)));
       next = ap (λ (f : Family). f .next) same ∙ next-born (c .args .context) (c .args .task) (view (c .args .self .now));
     }
