@@ -3,7 +3,7 @@ use mathlib.Core.Path.{_≡_, refl, sym, ap, subst, _∙_}
 use mathlib.Core.Bool.{Bool, true, false, cond}
 use mathlib.Core.List.{List, [], _∷_, _++_, reverse}
 use mathlib.Core.Logic.{_⊎_, inl, inr}
-use Prim.Native.Nat.{ℕ, zero, suc, _+_}
+use Prim.Native.Nat.{ℕ, zero, suc, _+_, _≤_}
 use native.Mathlib.Omega.{arith}
 use lib.Dec.{eqb}
 use lib.ListN.{length}
@@ -26,6 +26,7 @@ use Rattle.lineage.specs.Cascade.{Step, condemned, passed, struck, step-at, ste
 use Rattle.supervision.specs.Sound.{Lives}
 use Rattle.supervision.specs.Laws.{struck-with, Cascaded}
 use Rattle.supervision.proofs.Whole.{Whole}
+use Rattle.supervision.proofs.Seating.{single-cascaded, struck-seats, in-times}
 use Rattle.supervision.proofs.Walking.{walked, walked-whole, under-aborted}
 
 times-task : (k : ℕ) (t : Option ℕ) → cond (holds k t) 1 0 ≡ times k (listOf t)
@@ -96,18 +97,22 @@ walk-gives task (suc k) (s ∷ st) F t n l q has n′ l′ a = elim (step-gives 
 pub cascade-law : (top : ℕ) (F : Family) → Whole F → Cascaded F (cascaded top F .0) top (cascaded top F .1)
 cascade-law top F ok =
     let w = walked top F ok in
+    let counted : (k : ℕ) → struck-with k (cascaded top F .0 .nodes) ≡ struck-with k (F .nodes) + times k (cascaded top F .1) = λ k. walk-counted k (1 + length (F .links)) (top ∷ []) F (ok .solid .frame .order) in
+    let once : (k : ℕ) → times k (cascaded top F .1) ≤ 1 = λ k. omega (arith, counted k, struck-seats k (cascaded top F .0 .nodes), single-cascaded top F (ok .single) k) in
     record {
       all-under = λ t n u l. under-aborted F (cascaded top F .0) top w u n l;
       only-under = λ t n l a. (w .came t n l .was, w .came t n l .lived, w .came t n l .aborts a);
       all-live = λ t m l. (w .goes t m l .is, w .goes t m l .lives, w .goes t m l .stays);
       gives = λ task t n u l q has.
           let now′ = w .goes t n l in
-          walk-gives task (1 + length (F .links)) (top ∷ []) F t n l q has (now′ .is) (now′ .lives) (under-aborted F (cascaded top F .0) top w u (now′ .is) (now′ .lives));
-      given-once = λ k. walk-counted k (1 + length (F .links)) (top ∷ []) F (ok .solid .frame .order);
+          let given = walk-gives task (1 + length (F .links)) (top ∷ []) F t n l q has (now′ .is) (now′ .lives) (under-aborted F (cascaded top F .0) top w u (now′ .is) (now′ .lives)) in
+          omega (arith, in-times task (cascaded top F .1) given, once task);
+      given-once = once;
+      given-for = counted;
     }
 
 pub whole-cascaded : (top : ℕ) (F : Family) → Whole F → Whole (cascaded top F .0)
-whole-cascaded top F ok = walked-whole F (cascaded top F .0) top (walked top F ok)
+whole-cascaded top F ok = walked-whole F (cascaded top F .0) top (walked top F ok) (single-cascaded top F (ok .single))
 
 -- the law, of what is equal to the cascade's results
 pub cascade-law-of : (top : ℕ) (F G : Family) (tasks : List ℕ) → G ≡ cascaded top F .0 → tasks ≡ cascaded top F .1 → Whole F → Cascaded F G top tasks

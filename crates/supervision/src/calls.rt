@@ -4,11 +4,12 @@ ghost use mathlib.Core.Bool.{true, false};
 ghost use mathlib.Core.List.{[]};
 ghost use Prim.Native.Nat.{_+_, _<_, _≤_, _^_};
 ghost use Rattle.std.specs.Vec.{made};
+ghost use Rattle.std.specs.declared.option.Option.the-variants.{None};
 ghost use Rattle.keyed.specs.Choices.{answered};
 ghost use Rattle.lineage.specs.Family.{open-for, aborted-at, node-free};
 ghost use Rattle.lineage.specs.Births.{link-free};
 ghost use Rattle.supervision.specs.Laws.{Aged};
-ghost use Rattle.supervision.specs.Calls.{view, given-tasks, founded, child-refusal, after-child, context-refusal, closed, after-close, seated};
+ghost use Rattle.supervision.specs.Calls.{view, given-tasks, founded, child-refusal, after-child, context-refusal, closed, after-close, seated, seat-of};
 use crate::Refusal;
 use crate::Tree;
 use lineage::births::bear;
@@ -83,13 +84,14 @@ impl Tree {
     }
 
     // Spends the context that the holder has open: the task is seated at its node, and gets a
-    // context on a new child, whose serial this gives.
+    // context on a new child, whose serial this gives. The task has no seat yet.
     pub fn seat(&mut self, holder: u64, context: u64, task: u64) -> u64
         requires open { ⌜ open-for holder context (view (now self)) ≡ true ⌝ }
         requires living { ⌜ aborted-at context (view (now self)) ≡ false ⌝ }
         requires node { ⌜ node-free (view (now self)) ≡ true ⌝ }
         requires link { ⌜ link-free context (view (now self)) ≡ true ⌝ }
         requires fits { ⌜ view (now self) .next + 1 < 2 ^ 64 ⌝ }
+        requires new { ⌜ seat-of task (view (now self)) ≡ None ⌝ }
         ensures answer { λ r. ⌜ r ≡ view (now (self .entry)) .next ⌝ }
         ensures state { λ _. ⌜ view (now (self .exit)) ≡ seated context task (view (now (self .entry))) ⌝ }
         ensures marks { λ _. ⌜ given-tasks (now (self .exit)) ≡ given-tasks (now (self .entry)) ⌝ }
