@@ -6,8 +6,9 @@ use mathlib.Core.List.{List, [], _∷_, _++_, map, reverse}
 use mathlib.Core.Logic.{_⊎_, inl, inr}
 use Prim.Native.Nat.{ℕ, zero, suc, _+_, _<_, _≤_}
 use native.Mathlib.Omega.{arith}
+use lib.Dec.{ltb}
 use lib.ListN.{length}
-use Rattle.std.proofs.shelf.Tests.{cond-both}
+use Rattle.std.proofs.shelf.Tests.{cond-both, cases-bool, ltb-true, ltb-false}
 use Rattle.std.specs.Options.{mapped}
 use Rattle.std.specs.shelf.Lists.{kept-by}
 use Rattle.std.specs.declared.option.Option.{Option}
@@ -29,15 +30,26 @@ use Rattle.supervision.specs.Calls.{child-refusal, with-child, after-child, co
 use Rattle.supervision.proofs.Solid.{tidied-by}
 use Rattle.supervision.proofs.Whole.{by-test}
 
+-- where what is dead stays dead, a node that was not there before has a new serial
+aged-by : (F G : Family) → F .next ≤ G .next → ((t : ℕ) → t < F .next → node-at t F ≡ None → node-at t G ≡ None) → Aged F G
+aged-by F G le none = record {
+  grows = le;
+  gone = none;
+  fresh = λ t n l h. elim (cases-bool (ltb t (F .next))) [
+    | inl e ↦ absurd (some-not-none (none t (ltb-true t (F .next) e) h) l)
+    | inr e ↦ ltb-false t (F .next) e
+  ];
+}
+
 pub aged-same : (F : Family) → Aged F F
-aged-same F = record { grows = omega arith; gone = λ t l h. h }
+aged-same F = aged-by F F (omega arith) (λ t l h. h)
 
 pub aged-then : (F G H : Family) → Aged F G → Aged G H → Aged F H
-aged-then F G H a b = record { grows = omega (arith, a .grows, b .grows); gone = λ t l h. b .gone t (omega (arith, a .grows, l)) (a .gone t l h) }
+aged-then F G H a b = aged-by F H (omega (arith, a .grows, b .grows)) (λ t l h. b .gone t (omega (arith, a .grows, l)) (a .gone t l h))
 
 -- no node of the new list is one that the old list had not
 by-nodes : (F : Family) (ns : List Node) (k : ℕ) → F .next ≤ k → ((t : ℕ) → t < F .next → find serial-of t (F .nodes) ≡ None → find serial-of t ns ≡ None) → (G : Family) → G .nodes ≡ ns → G .next ≡ k → Aged F G
-by-nodes F ns k le none G is next = record { grows = omega (arith, le, next); gone = λ t l h. ap (find serial-of t) is ∙ none t l h }
+by-nodes F ns k le none G is next = aged-by F G (omega (arith, le, next)) (λ t l h. ap (find serial-of t) is ∙ none t l h)
 
 none-change : (f : Node → Node) → ((n : Node) → serial-of (f n) ≡ serial-of n) → (s t : ℕ) (ns : List Node) → find serial-of t ns ≡ None → find serial-of t (change serial-of f s ns) ≡ None
 none-change f same s t ns h = find-change serial-of f same s t ns ∙ ap (mapped (on serial-of s f)) h

@@ -3,7 +3,7 @@ use mathlib.Core.Path.{_≡_, refl, sym, ap, subst, _∙_}
 use mathlib.Core.Bool.{Bool, true, false, cond}
 use mathlib.Core.List.{List, [], _∷_, _++_, reverse}
 use mathlib.Core.Logic.{_⊎_, inl, inr}
-use Prim.Native.Nat.{ℕ, zero, suc, _+_}
+use Prim.Native.Nat.{ℕ, zero, suc, _+_, _≤_}
 use native.Mathlib.Omega.{arith}
 use lib.Dec.{eqb}
 use lib.ListN.{length}
@@ -26,6 +26,7 @@ use Rattle.lineage.specs.Cascade.{Step, condemned, passed, struck, step-at, ste
 use Rattle.supervision.specs.Sound.{Lives}
 use Rattle.supervision.specs.Laws.{struck-with, Cascaded}
 use Rattle.supervision.proofs.Whole.{Whole}
+use Rattle.supervision.proofs.Seating.{single-cascaded, struck-seats, in-times}
 use Rattle.supervision.proofs.Walking.{walked, walked-whole, under-aborted}
 
 times-task : (k : ℕ) (t : Option ℕ) → cond (holds k t) 1 0 ≡ times k (listOf t)
@@ -78,36 +79,40 @@ step-gives task s t (Some m) F n e l has =
     cond-both (m .aborted) (passed F) (struck s m F) (λ (v : Step). In task (v .marks) ⊎ Lives (v .after) t n)
     (λ _. inr l)
     (λ _. elim (cases-eq t s) [
-        inl same ↦
+      | inl same ↦
           let is : m ≡ n = same-some (subst (λ z. node-at z F ≡ Some m) (sym same) e) l in
           let seat : m .task ≡ Some task = ap (λ (x : Node). x .task) is ∙ holds-is task (n .task) has in
           inl (subst (λ (x : Option ℕ). In task (listOf x)) (sym seat) (inl refl))
       | inr apart ↦ inr (find-change-other serial-of condemned (λ _. refl) s t (F .nodes) apart ∙ l)
-      ])
+    ])
 
 walk-gives : (task k : ℕ) (st : List ℕ) (F : Family) (t : ℕ) (n : Node) → Lives F t n → n .aborted ≡ false → seats task n ≡ true → (n′ : Node) → Lives (walk k st F .0) t n′ → n′ .aborted ≡ true → In task (walk k st F .1)
 walk-gives task zero st F t n l q has n′ l′ a = absurd (both-ways (n .aborted) q (ap (λ (x : Node). x .aborted) (same-some l l′) ∙ a))
 walk-gives task (suc k) [] F t n l q has n′ l′ a = absurd (both-ways (n .aborted) q (ap (λ (x : Node). x .aborted) (same-some l l′) ∙ a))
 walk-gives task (suc k) (s ∷ st) F t n l q has n′ l′ a = elim (step-gives task s t (node-at s F) F n refl l has) [
-      inl i ↦ in-left task (step s F .marks) (walk k (reverse (step s F .below) ++ st) (step s F .after) .1) i
-    | inr j ↦ in-right task (step s F .marks) (walk k (reverse (step s F .below) ++ st) (step s F .after) .1) (walk-gives task k (reverse (step s F .below) ++ st) (step s F .after) t n j q has n′ l′ a)
-    ]
+  | inl i ↦ in-left task (step s F .marks) (walk k (reverse (step s F .below) ++ st) (step s F .after) .1) i
+  | inr j ↦ in-right task (step s F .marks) (walk k (reverse (step s F .below) ++ st) (step s F .after) .1) (walk-gives task k (reverse (step s F .below) ++ st) (step s F .after) t n j q has n′ l′ a)
+]
 
 pub cascade-law : (top : ℕ) (F : Family) → Whole F → Cascaded F (cascaded top F .0) top (cascaded top F .1)
 cascade-law top F ok =
     let w = walked top F ok in
+    let counted : (k : ℕ) → struck-with k (cascaded top F .0 .nodes) ≡ struck-with k (F .nodes) + times k (cascaded top F .1) = λ k. walk-counted k (1 + length (F .links)) (top ∷ []) F (ok .solid .frame .order) in
+    let once : (k : ℕ) → times k (cascaded top F .1) ≤ 1 = λ k. omega (arith, counted k, struck-seats k (cascaded top F .0 .nodes), single-cascaded top F (ok .single) k) in
     record {
       all-under = λ t n u l. under-aborted F (cascaded top F .0) top w u n l;
       only-under = λ t n l a. (w .came t n l .was, w .came t n l .lived, w .came t n l .aborts a);
       all-live = λ t m l. (w .goes t m l .is, w .goes t m l .lives, w .goes t m l .stays);
       gives = λ task t n u l q has.
-        let now′ = w .goes t n l in
-        walk-gives task (1 + length (F .links)) (top ∷ []) F t n l q has (now′ .is) (now′ .lives) (under-aborted F (cascaded top F .0) top w u (now′ .is) (now′ .lives));
-      given-once = λ k. walk-counted k (1 + length (F .links)) (top ∷ []) F (ok .solid .frame .order);
+          let now′ = w .goes t n l in
+          let given = walk-gives task (1 + length (F .links)) (top ∷ []) F t n l q has (now′ .is) (now′ .lives) (under-aborted F (cascaded top F .0) top w u (now′ .is) (now′ .lives)) in
+          omega (arith, in-times task (cascaded top F .1) given, once task);
+      given-once = once;
+      given-for = counted;
     }
 
 pub whole-cascaded : (top : ℕ) (F : Family) → Whole F → Whole (cascaded top F .0)
-whole-cascaded top F ok = walked-whole F (cascaded top F .0) top (walked top F ok)
+whole-cascaded top F ok = walked-whole F (cascaded top F .0) top (walked top F ok) (single-cascaded top F (ok .single))
 
 -- the law, of what is equal to the cascade's results
 pub cascade-law-of : (top : ℕ) (F G : Family) (tasks : List ℕ) → G ≡ cascaded top F .0 → tasks ≡ cascaded top F .1 → Whole F → Cascaded F G top tasks

@@ -2,6 +2,7 @@ pub mod Solid
 pub mod Dying
 pub mod Newborn
 pub mod Keeping
+pub mod Seating
 pub mod Whole
 pub mod Struck
 pub mod Walking

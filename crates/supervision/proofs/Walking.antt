@@ -25,7 +25,7 @@ use Rattle.links.specs.Link.{joins, elsewhere, children}
 use Rattle.lineage.specs.Family.{Family, family, node-at, changed, aborted-at}
 use Rattle.lineage.specs.Cascade.{Step, condemned, passed, struck, step-at, step, walk, cascaded}
 use Rattle.lineage.proofs.Visits.{step-leaves}
-use Rattle.supervision.specs.Sound.{Lives, has-link, Born, Kin, Led, Shielded, Linked, Kept}
+use Rattle.supervision.specs.Sound.{Lives, has-link, Born, Kin, Led, Shielded, Linked, Kept, Single}
 use Rattle.supervision.specs.Laws.{Under, itself, below, All-aborted}
 use Rattle.supervision.proofs.Solid.{Frame, Solid, frame-changed, frame-loose, loose-dropped, joins-parent}
 use Rattle.supervision.proofs.Keeping.{kept-change}
@@ -227,8 +227,8 @@ module _ (F G : Family) (top : ℕ) (w : Walking F top G []) where
   shields : Shielded G
   shields k a = elim (w .covered k a) [ inl x ↦ x | inr z ↦ absurd z ]
 
-  pub walked-whole : Whole G
-  walked-whole = record { solid = record { frame = w .frame; shielded = shields; linked = w .linked }; kept = w .kept }
+  pub walked-whole : Single G → Whole G
+  walked-whole one = record { solid = record { frame = w .frame; shielded = shields; linked = w .linked }; kept = w .kept; single = one }
 
   pub under-aborted : {t : ℕ} → Under F top t → (n : Node) → Lives G t n → n .aborted ≡ true
   under-aborted (itself l) n g = elim (w .tops n g) [ inl x ↦ x | inr z ↦ absurd z ]

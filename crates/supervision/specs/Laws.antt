@@ -5,7 +5,7 @@ use mathlib.Core.List.{List, [], _∷_}
 use mathlib.Core.Logic.{_⊎_}
 use Prim.Native.Nat.{ℕ, _+_, _<_, _≤_}
 use Rattle.std.specs.declared.option.Option.the-variants.{None}
-use Rattle.keyed.specs.Members.{In, times}
+use Rattle.keyed.specs.Members.{times}
 use Rattle.nodes.specs.declared.Node.{Node}
 use Rattle.nodes.specs.Node.{seats}
 use Rattle.lineage.specs.Family.{Family, node-at}
@@ -33,14 +33,18 @@ pub record Cascaded (F G : Family) (top : ℕ) (tasks : List ℕ) : Type 0 where
   pub only-under : (t : ℕ) (n : Node) → Lives G t n → n .aborted ≡ true → (m : Node) × Lives F t m × ((m .aborted ≡ true) ⊎ Under F top t)
   -- no node is lost, and what was aborted stays so
   pub all-live : (t : ℕ) (m : Node) → Lives F t m → (n : Node) × Lives G t n × (m .aborted ≡ true → n .aborted ≡ true)
-  -- each task that is seated at a node that came to be aborted is given
-  pub gives : (task t : ℕ) (n : Node) → Under F top t → Lives F t n → n .aborted ≡ false → seats task n ≡ true → In task tasks
-  -- and as often as nodes where it is seated came to be aborted
-  pub given-once : (task : ℕ) → struck-with task (G .nodes) ≡ struck-with task (F .nodes) + times task tasks
+  -- each task that is seated at a node that came to be aborted is given once
+  pub gives : (task t : ℕ) (n : Node) → Under F top t → Lives F t n → n .aborted ≡ false → seats task n ≡ true → times task tasks ≡ 1
+  -- no task is given twice
+  pub given-once : (task : ℕ) → times task tasks ≤ 1
+  -- and each as often as nodes where it is seated came to be aborted
+  pub given-for : (task : ℕ) → struck-with task (G .nodes) ≡ struck-with task (F .nodes) + times task tasks
 
--- G comes after F: serials are never reused
+-- G comes after F: a serial that was given out is never given to another node
 pub record Aged (F G : Family) : Type 0 where
   -- the next serial never falls
   pub grows : F .next ≤ G .next
   -- a serial that was given out, and whose node is dead, has no node again
   pub gone : (t : ℕ) → t < F .next → node-at t F ≡ None → node-at t G ≡ None
+  -- a node that was not there before has a serial that was not given out
+  pub fresh : (t : ℕ) (n : Node) → Lives G t n → node-at t F ≡ None → F .next ≤ t

@@ -1,14 +1,15 @@
 -- What always holds of a supervision tree.
 use mathlib.Core.Path.{_≡_}
-use mathlib.Core.Bool.{Bool, true, false}
-use Prim.Native.Nat.{ℕ, _<_}
+use mathlib.Core.Bool.{Bool, true, false, cond}
+use mathlib.Core.List.{List, [], _∷_}
+use Prim.Native.Nat.{ℕ, _+_, _<_, _≤_}
 use lib.Dec.{ltb}
 use Rattle.std.specs.Options.{isSome}
 use Rattle.std.specs.declared.option.Option.{Option}
 use Rattle.std.specs.declared.option.Option.the-variants.{Some, None}
 use Rattle.keyed.specs.Members.{any}
 use Rattle.nodes.specs.declared.Node.{Node}
-use Rattle.nodes.specs.Node.{child-of, unkept}
+use Rattle.nodes.specs.Node.{child-of, unkept, seats}
 use Rattle.links.specs.Link.{joins}
 use Rattle.lineage.specs.Family.{Family, node-at}
 
@@ -71,3 +72,12 @@ Past F = (l : Joined F) → ltb (l .serial) (F .next) ≡ true
 -- whatever lives is kept alive by an open context, a task that has not ended, or a living child
 abbrev pub Kept : Family → Type 0
 Kept F = any (unkept (F .nodes)) (F .nodes) ≡ false
+
+-- how many nodes the task is seated at
+abbrev pub seats-with : ℕ → List Node → ℕ
+seats-with task [] = 0
+seats-with task (n ∷ ns) = cond (seats task n) 1 0 + seats-with task ns
+
+-- no task is seated at two nodes
+abbrev pub Single : Family → Type 0
+Single F = (task : ℕ) → seats-with task (F .nodes) ≤ 1

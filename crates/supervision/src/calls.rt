@@ -1,13 +1,15 @@
 // The calls that make contexts and spend them.
 ghost use mathlib.Core.Path.{_≡_};
 ghost use mathlib.Core.Bool.{true, false};
+ghost use mathlib.Core.List.{[]};
 ghost use Prim.Native.Nat.{_+_, _<_, _≤_, _^_};
 ghost use Rattle.std.specs.Vec.{made};
+ghost use Rattle.std.specs.declared.option.Option.the-variants.{None};
 ghost use Rattle.keyed.specs.Choices.{answered};
 ghost use Rattle.lineage.specs.Family.{open-for, aborted-at, node-free};
 ghost use Rattle.lineage.specs.Births.{link-free};
 ghost use Rattle.supervision.specs.Laws.{Aged};
-ghost use Rattle.supervision.specs.Calls.{view, founded, child-refusal, after-child, context-refusal, closed, after-close, seated};
+ghost use Rattle.supervision.specs.Calls.{view, given-tasks, founded, child-refusal, after-child, context-refusal, closed, after-close, seated, seat-of};
 use crate::Refusal;
 use crate::Tree;
 use lineage::births::bear;
@@ -24,7 +26,8 @@ const ROOT_TASK: u64 = 0;
 impl Tree {
     // A tree of one node, whose context the root task holds. Nothing is allocated after this.
     pub fn new(heap: Global) -> Result<Tree, AllocError>
-        ensures { λ r. ⌜ made r (λ t. view t ≡ founded) ⌝ }
+        ensures state { λ r. ⌜ made r (λ t. view t ≡ founded) ⌝ }
+        ensures marks { λ r. ⌜ made r (λ t. given-tasks t ≡ []) ⌝ }
     {
         let mut nodes = Nodes::new(heap)?;
         let links = Links::new(heap)?;
@@ -39,6 +42,7 @@ impl Tree {
         requires fits { ⌜ view (now self) .next + 1 < 2 ^ 64 ⌝ }
         ensures answer { λ r. ⌜ r ≡ answered (child-refusal task context (view (now (self .entry)))) (view (now (self .entry)) .next, aborted-at context (view (now (self .entry)))) ⌝ }
         ensures state { λ _. ⌜ view (now (self .exit)) ≡ after-child task context (view (now (self .entry))) ⌝ }
+        ensures marks { λ _. ⌜ given-tasks (now (self .exit)) ≡ given-tasks (now (self .entry)) ⌝ }
         ensures serials { λ _. ⌜ Aged (view (now (self .entry))) (view (now (self .exit))) ⌝ }
         ensures next { λ _. ⌜ view (now (self .exit)) .next ≤ view (now (self .entry)) .next + 1 ⌝ }
     {
@@ -57,6 +61,7 @@ impl Tree {
     pub fn close(&mut self, task: u64, context: u64) -> Result<(), Refusal>
         ensures answer { λ r. ⌜ r ≡ answered (context-refusal task context (view (now (self .entry)))) tt ⌝ }
         ensures state { λ _. ⌜ view (now (self .exit)) ≡ after-close task context (view (now (self .entry))) ⌝ }
+        ensures marks { λ _. ⌜ given-tasks (now (self .exit)) ≡ given-tasks (now (self .entry)) ⌝ }
         ensures serials { λ _. ⌜ Aged (view (now (self .entry))) (view (now (self .exit))) ⌝ }
         ensures next { λ _. ⌜ view (now (self .exit)) .next ≡ view (now (self .entry)) .next ⌝ }
     {
@@ -70,6 +75,7 @@ impl Tree {
     // Spends the context where no task can be seated.
     pub fn spend(&mut self, context: u64)
         ensures state { λ _. ⌜ view (now (self .exit)) ≡ closed context (view (now (self .entry))) ⌝ }
+        ensures marks { λ _. ⌜ given-tasks (now (self .exit)) ≡ given-tasks (now (self .entry)) ⌝ }
         ensures serials { λ _. ⌜ Aged (view (now (self .entry))) (view (now (self .exit))) ⌝ }
         ensures next { λ _. ⌜ view (now (self .exit)) .next ≡ view (now (self .entry)) .next ⌝ }
     {
@@ -78,15 +84,17 @@ impl Tree {
     }
 
     // Spends the context that the holder has open: the task is seated at its node, and gets a
-    // context on a new child, whose serial this gives.
+    // context on a new child, whose serial this gives. The task has no seat yet.
     pub fn seat(&mut self, holder: u64, context: u64, task: u64) -> u64
         requires open { ⌜ open-for holder context (view (now self)) ≡ true ⌝ }
         requires living { ⌜ aborted-at context (view (now self)) ≡ false ⌝ }
         requires node { ⌜ node-free (view (now self)) ≡ true ⌝ }
         requires link { ⌜ link-free context (view (now self)) ≡ true ⌝ }
         requires fits { ⌜ view (now self) .next + 1 < 2 ^ 64 ⌝ }
+        requires new { ⌜ seat-of task (view (now self)) ≡ None ⌝ }
         ensures answer { λ r. ⌜ r ≡ view (now (self .entry)) .next ⌝ }
         ensures state { λ _. ⌜ view (now (self .exit)) ≡ seated context task (view (now (self .entry))) ⌝ }
+        ensures marks { λ _. ⌜ given-tasks (now (self .exit)) ≡ given-tasks (now (self .entry)) ⌝ }
         ensures serials { λ _. ⌜ Aged (view (now (self .entry))) (view (now (self .exit))) ⌝ }
         ensures next { λ _. ⌜ view (now (self .exit)) .next ≡ view (now (self .entry)) .next + 1 ⌝ }
     {

@@ -11,6 +11,7 @@ impl Tree {
     // Closes every context that the task holds.
     pub fn close_all(&mut self, task: u64)
         ensures state { λ _. ⌜ view (now (self .exit)) ≡ closed-all task (view (now (self .entry))) ⌝ }
+        ensures marks { λ _. ⌜ given-tasks (now (self .exit)) ≡ given-tasks (now (self .entry)) ⌝ }
         ensures serials { λ _. ⌜ Aged (view (now (self .entry))) (view (now (self .exit))) ⌝ }
         ensures next { λ _. ⌜ view (now (self .exit)) .next ≡ view (now (self .entry)) .next ⌝ }
     {
@@ -34,6 +35,7 @@ impl Tree {
     // The task, which has ended, leaves its node.
     pub fn leave(&mut self, task: u64)
         ensures state { λ _. ⌜ view (now (self .exit)) ≡ left task (view (now (self .entry))) ⌝ }
+        ensures marks { λ _. ⌜ given-tasks (now (self .exit)) ≡ given-tasks (now (self .entry)) ⌝ }
         ensures serials { λ _. ⌜ Aged (view (now (self .entry))) (view (now (self .exit))) ⌝ }
         ensures next { λ _. ⌜ view (now (self .exit)) .next ≡ view (now (self .entry)) .next ⌝ }
     {

@@ -1,6 +1,6 @@
 // The supervision tree: which context and task stands below which, and what an abort reaches.
 ghost use Rattle.lineage.specs.Family.{family-of};
-ghost use Rattle.supervision.specs.Sound.{Rooted, Shielded, Linked, Honest, Past, Kept};
+ghost use Rattle.supervision.specs.Sound.{Rooted, Shielded, Linked, Honest, Past, Kept, Single};
 use lineage::walk::Walk;
 use links::Links;
 use nodes::Nodes;
@@ -38,4 +38,6 @@ pub struct Tree {
     ghost past: { Past (family-of nodes links) },
     // Whatever lives is kept alive by an open context, a task that has not ended, or a living child.
     ghost kept: { Kept (family-of nodes links) },
+    // No task is seated at two nodes.
+    ghost single: { Single (family-of nodes links) },
 }

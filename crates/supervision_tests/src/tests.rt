@@ -38,6 +38,9 @@ fn links_of_top(tree: &Tree) -> Result<usize, &'static str> {
 // A new task at a context under the top; gives the context that the task holds.
 fn spawn_below_top(tree: &mut Tree, task: u64) -> Result<u64, &'static str> {
     let (context, _) = child_of_top(tree)?;
+    if tree.node_of(task).is_some() {
+        return Err("seated");
+    }
     if tree.next_serial() < MANY
         && tree.is_open(0, context)
         && !tree.is_aborted(context)

@@ -17,6 +17,7 @@ pub returns-then-is-aborted : need.returns-then-is-aborted
 returns-then-is-aborted c = record {
   answer = search needs;
   state = search needs;
+  marks = refl;
   serials = subst (Aged (view (c .args .self .now))) (sym (same-family (c .add-serial .ensures .nodes) refl (c .add-serial .ensures .next))) (aged-orphaned (c .args .task) (view (c .args .self .now)));
   next = omega (arith, c .add-serial .ensures .next);
 }
@@ -31,6 +32,7 @@ pub returns : need.returns
 returns c = record {
   answer = search needs;
   state = search needs;
+  marks = refl;
   serials = subst (Aged (view (c .args .self .now))) (sym (c .bear-serial .ensures .after)) (aged-born (c .args .context) (c .args .task) (view (c .args .self .now)));
   next =
       let is = ap (λ (f : Family). f .next) (c .bear-serial .ensures .after) ∙ next-born (c .args .context) (c .args .task) (view (c .args .self .now)) in

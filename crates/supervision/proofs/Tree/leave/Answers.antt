@@ -16,4 +16,4 @@ ghost-self c =
 pub returns : need.returns
 returns c =
     let same = c .settle .ensures ∙ ap settled (same-family (c .vacate .ensures .nodes) refl (c .vacate .ensures .next)) in
-    record { state = same; serials = subst (Aged (view (c .args .self .now))) (sym same) (aged-left (c .args .task) (view (c .args .self .now))); next = ap (λ (f : Family). f .next) (c .settle .ensures) ∙ (next-settled (family-of (c .vacate .last .self) (c .args .self .now .links)) ∙ c .vacate .ensures .next) }
+    record { state = same; marks = refl; serials = subst (Aged (view (c .args .self .now))) (sym same) (aged-left (c .args .task) (view (c .args .self .now))); next = ap (λ (f : Family). f .next) (c .settle .ensures) ∙ (next-settled (family-of (c .vacate .last .self) (c .args .self .now .links)) ∙ c .vacate .ensures .next) }

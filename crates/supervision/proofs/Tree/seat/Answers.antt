@@ -14,7 +14,7 @@ ghost-self c =
     let same = same-family (c .seat .ensures .nodes) refl (c .seat .ensures .next) ∙ ap (changed (taken (c .args .task)) (c .args .context)) (c .bear-serial .ensures .after) in
     let node = open-lives (c .args .holder) (c .args .context) (view (c .args .self .now)) (c .pre .open) in
     facts-of (family-of (c .seat .last .self) (c .bear-serial .last .links)) _ same
-    (whole-seated (c .args .context) (c .args .task) (view (c .args .self .now)) (node .0) (node .1) (flag-at (c .args .context) (view (c .args .self .now)) (node .0) false (node .1) (c .pre .living)) (whole-of (c .args .self .now)))
+    (whole-seated (c .args .context) (c .args .task) (view (c .args .self .now)) (node .0) (node .1) (flag-at (c .args .context) (view (c .args .self .now)) (node .0) false (node .1) (c .pre .living)) (c .pre .new) (whole-of (c .args .self .now)))
 
 pub returns : need.returns
 returns c =
@@ -22,6 +22,7 @@ returns c =
     record {
       answer = c .bear-serial .ensures .serial;
       state = same;
+      marks = refl;
       serials = subst (Aged (view (c .args .self .now))) (sym same) (aged-seated (c .args .context) (c .args .task) (view (c .args .self .now)));
       next = ap (λ (f : Family). f .next) same ∙ next-born (c .args .context) (c .args .task) (view (c .args .self .now));
     }

@@ -16,4 +16,4 @@ ghost-self c =
 pub returns : need.returns
 returns c =
     let same = c .settle .ensures ∙ ap settled (same-family (c .release .ensures .nodes) refl (c .release .ensures .next)) in
-    record { state = same; serials = subst (Aged (view (c .args .self .now))) (sym same) (aged-closed (c .args .context) (view (c .args .self .now))); next = ap (λ (f : Family). f .next) (c .settle .ensures) ∙ (next-settled (family-of (c .release .last .self) (c .args .self .now .links)) ∙ c .release .ensures .next) }
+    record { state = same; marks = refl; serials = subst (Aged (view (c .args .self .now))) (sym same) (aged-closed (c .args .context) (view (c .args .self .now))); next = ap (λ (f : Family). f .next) (c .settle .ensures) ∙ (next-settled (family-of (c .release .last .self) (c .args .self .now .links)) ∙ c .release .ensures .next) }
