@@ -1,7 +1,7 @@
 // The executor of a rehearsal: what its calls are refused for, what they answer, and what it counts.
 pub mod counts;
 pub mod crew;
-pub mod facts;
+mod facts;
 pub mod outcome;
 pub mod refusal;
 pub mod sleep;
