@@ -1,2 +1,3 @@
 pub mod Script
 pub mod Rehearsals
+pub mod Behaviours

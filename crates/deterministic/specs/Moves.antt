@@ -116,7 +116,7 @@ pub data Move : Type 0 where
   register : (task : ℕ) (label : List ℕ) (node : ℕ) → Move
   -- this alarm is armed
   arm : Alarm → Move
-  -- this task is marked aborted, and runs no more
+  -- this task is marked aborted, and is no longer counted as running
   mark : (task : ℕ) → Move
   -- this task's body has come to pending
   pend : (task : ℕ) → Move

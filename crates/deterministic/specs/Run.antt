@@ -234,8 +234,8 @@ module _ {V : Type 0} (rule : V → ℕ → Model → Turn V) where
       whether (s .finish) on s
 
   module _ {W : Type 0} (arrange : W → (ids : List ℕ) → Order W ℕ ids) where
-    -- rounds until the run ends, at most so many: every round writes at least the entry of its draining, and none begins
-    -- with fewer than 512 entries free, so one more than there are free entries is always enough
+    -- rounds until the run ends, at most so many: every round writes at least the entry of its draining, and none is
+    -- completed unless 512 entries were free at its close, so one more than there are free entries is always enough
     unfoldable pub rounds : ℕ → V → W → Model → Final V W
     rounds zero v w m = final m v w ledger-spent
     rounds (suc n) v w m =

@@ -55,7 +55,7 @@ memory-refusal memory = cond (rightSize memory) None (Some wrongSizeNumber)
 abbrev pub no-counts : Counts
 no-counts = record { iterations = 0; spawned = 0; running = 0; polls = 0 }
 
--- an executor in which nothing has happened, over an empty ledger
+-- an executor with the root alone, not queued yet, over an empty ledger
 abbrev pub idle : Settings → List Entry → Model
 idle s memory = record {
   clock = record { time = s .start; cycle = s .cycle; deadline = deadline-of s };
