@@ -1,4 +1,6 @@
 // The alarms of sleeping tasks, in the order in which they ring.
+#![tactic(auto)]
+
 ghost use Rattle.std.specs.Prelude.{◌≡◌, ◌≤◌, true, vec_len, vec_capacity};
 ghost use Rattle.alarms.specs.Order.{ordered, most_alarms};
 

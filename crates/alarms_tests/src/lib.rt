@@ -1,4 +1,6 @@
 // What alarms do, by example.
+#![tactic(auto)]
+
 ghost use Rattle.std.specs.Prelude.{◌≡◌};
 ghost use Rattle.alarms.specs.Model.{view};
 

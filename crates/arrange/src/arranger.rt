@@ -24,8 +24,8 @@ pub trait Arranger<T> {
 // Has the arranger order the items where there are two or more. It is not asked about fewer: its value stays, so a shuffle
 // makes no draw.
 pub fn put_in_order<T, W: Arranger<T>>(arranger: &mut W, items: &mut [T])
-    ensures order { items.new ≡ (asked rule (value arranger.old) items.old).order }
-    ensures next { value arranger.new ≡ (asked rule (value arranger.old) items.old).value }
+    ensures order { items.new ≡ (asked W.rule (W.value arranger.old) items.old).order }
+    ensures next { W.value arranger.new ≡ (asked W.rule (W.value arranger.old) items.old).value }
     ensures same { IsPermutation items.old items.new }
     ensures often { EquallyOften items.old items.new }
 {

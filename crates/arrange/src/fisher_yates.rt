@@ -9,7 +9,7 @@ use crate::draws::Draws;
 
 // From the last place down to place 1, swaps each place with a drawn one at or before it.
 fn swap_down<T, D: Draws>(items: &mut [T], source: &mut D)
-    ensures { deck (value source.new) items.new ≡ shuffled rule (deck (value source.old) items.old) }
+    ensures { deck (D.value source.new) items.new ≡ shuffled D.rule (deck (D.value source.old) items.old) }
 {
     for i in (1..items.len()).rev() {
         let j = (source.draw() % (i as u64 + 1)) as usize;
@@ -19,7 +19,7 @@ fn swap_down<T, D: Draws>(items: &mut [T], source: &mut D)
 
 // Shuffles the items by the next draws of the source, one fewer than there are items.
 pub fn shuffle<T, D: Draws>(items: &mut [T], source: &mut D)
-    ensures order { deck (value source.new) items.new ≡ shuffled rule (deck (value source.old) items.old) }
+    ensures order { deck (D.value source.new) items.new ≡ shuffled D.rule (deck (D.value source.old) items.old) }
     ensures same { IsPermutation items.old items.new }
     ensures often { EquallyOften items.old items.new }
     ensures reach { EveryOrder }

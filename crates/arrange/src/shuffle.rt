@@ -22,11 +22,11 @@ impl<D> Shuffle<D> {
 }
 
 impl<T, D: Draws> Arranger<T> for Shuffle<D> {
-    ghost Value = { D.Draws.Value };
+    ghost Value = { D.Value };
 
-    ghost value = { λ s. D.Draws.value s.source };
+    ghost value = { λ s. D.value s.source };
 
-    ghost rule = { shuffle_rule D.Draws.rule };
+    ghost rule = { shuffle_rule D.rule };
 
     fn arrange(&mut self, items: &mut [T]) {
         fisher_yates::shuffle(items, &mut self.source);

@@ -1,4 +1,6 @@
 // What the arrangers and their draws do on examples.
+#![tactic(auto)]
+
 ghost use Rattle.std.specs.Prelude.{◌≡◌, [], ◌∷◌};
 
 use arrange::draws::Draws;

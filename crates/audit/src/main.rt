@@ -1,4 +1,6 @@
 // Prints the digest after each event of an audit, read from a file or from standard input.
+#![tactic(auto)]
+
 use anyhow::anyhow;
 use event_lines::audit::audit_input;
 use std::io::{Read, Write};

@@ -1,4 +1,6 @@
 // The audit of a rehearsal: a digest of its events, by which two rehearsals are compared.
+#![tactic(auto)]
+
 mod auditor;
 mod hasher;
 

@@ -1,6 +1,6 @@
 -- A granted call keeps the bounds: one lemma for each call.
 use Rattle.std.proofs.Common.{◌≡◌, ℕ, ◌+◌, ◌<◌, ◌≤◌, Bool, true, false, cond, eqb, List, [], ◌∷◌, ◌++◌, length, ℤ, Some, None, Option, sym, refl, ap, ◌∙◌, arith}
-use lib.ListN.{length_map}
+use lib.ListN.{length-map}
 use Rattle.std.proofs.lemmas.List.{length_push}
 use Rattle.std.proofs.lemmas.Bool.{ne_eqb}
 use Rattle.entry.specs.declared.Entry.TheVariants as entry
@@ -157,7 +157,7 @@ module _ (m : Model) (s : Sound m) (calm : Calm m) (spare : Spare m) (less : m.b
       let now : Model = move (quiet (signals S)) granted in
       let t = let_go_turned (caller m) m.stop in
       let few = let_go_wakes (caller m) m.stop in
-      let as_many = sym (length_map S.roll.rows task_of) ∙ (ap length t.ids ∙ length_map m.stop.roll.rows task_of) in
+      let as_many = sym (length-map S.roll.rows task_of) ∙ (ap length t.ids ∙ length-map m.stop.roll.rows task_of) in
       let ids = completion_wakes m.stop S in
       let w = woken cause.Stop ids now (omega (arith, few.all, as_many, rows_few)) in
       bounded (moves (does let_go m) granted)

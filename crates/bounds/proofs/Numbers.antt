@@ -1,6 +1,6 @@
 -- What the bounds say of single numbers.
 use Rattle.std.proofs.Common.{◌≡◌, ℕ, ◌+◌, ◌≤◌, Bool, true, false, cond, List, [], ◌∷◌, map, length, is_some, Some, None, sym, refl, ap, ◌∙◌, arith}
-use lib.ListN.{length_map}
+use lib.ListN.{length-map}
 use Rattle.std.specs.Option.{option_map}
 use Rattle.keyed.specs.Members.{first}
 use Rattle.roster.specs.declared.row.Row.{Row}
@@ -35,7 +35,7 @@ unseated k (n ∷ ns) e = go (seats k n) e (unseated k ns) where
 
 -- rows and tasks whose ids are the same are as many
 pub rows_length : (rows : List Row) (ts : List Task) → map task_of rows ≡ map id_of ts → length rows ≡ length ts
-rows_length rows ts e = sym (length_map rows task_of) ∙ (ap length e ∙ length_map ts id_of)
+rows_length rows ts e = sym (length-map rows task_of) ∙ (ap length e ∙ length-map ts id_of)
 
 pub sound_is_small : (m : Model) → Sound m → Small m
 sound_is_small m s =

@@ -1,4 +1,6 @@
 // That the bounds of an executor are kept: the statements stand in specs/, the proofs in proofs/.
+#![tactic(auto)]
+
 ghost use Rattle.bounds.specs.Kept.{SoundIsSmall, CalmIsSmall, CallsKeep, TurnsKeep, EndsKeep, OutcomesKeep, RoundsKeep, ClosesKeep, StartsKeep};
 
 // The numbers of a sound executor are small.

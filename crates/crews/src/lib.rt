@@ -1,4 +1,6 @@
 // The crews of the bench.
+#![tactic(auto)]
+
 ghost use Rattle.crews.specs.Behaviours.{Behaviours};
 ghost use Rattle.crews.specs.Rehearsals.{Rehearsals};
 

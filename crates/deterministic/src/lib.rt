@@ -1,4 +1,6 @@
 // The executor of a rehearsal: what its calls are refused for, what they answer, and what it counts.
+#![tactic(auto)]
+
 pub mod counts;
 pub mod crew;
 mod facts;

@@ -1,5 +1,7 @@
 // What every step of a run goes through: the queues, the registered tasks and the ledger, changed together so that each id that
 // is queued and each mark has its entry.
+#![tactic(auto)]
+
 use ledger::Ledger;
 use queues::Queues;
 use tasks::Tasks;

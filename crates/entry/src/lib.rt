@@ -1,4 +1,6 @@
 // One line of the ledger: what happened, to which task, at what time; and how it is printed.
+#![tactic(auto)]
+
 pub mod lines;
 pub mod report;
 

@@ -8,7 +8,7 @@ use std::fmt;
 
 // Writes a form of one number.
 fn write_one<W: fmt::Write>(f: &mut fmt::Formatter<W>, word: &str, first: u64) -> fmt::Result
-    ensures text { WritesOnOk write_str_gives f.old result (form word.now (first ∷ [])) f.new }
+    ensures text { WritesOnOk W.write_str_gives f.old result (form word.now (first ∷ [])) f.new }
 {
     write!(f, "({word} {first})")
 }
@@ -20,7 +20,7 @@ fn write_two<W: fmt::Write>(
     first: u64,
     second: u64,
 ) -> fmt::Result
-    ensures text { WritesOnOk write_str_gives f.old result (form word.now (first ∷ second ∷ [])) f.new }
+    ensures text { WritesOnOk W.write_str_gives f.old result (form word.now (first ∷ second ∷ [])) f.new }
 {
     write!(f, "({word} {first} {second})")
 }

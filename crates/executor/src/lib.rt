@@ -1,4 +1,6 @@
 // The executor of a rehearsal, as the body of a task meets it.
+#![tactic(auto)]
+
 ghost use Rattle.model.specs.Bounds.{Calm, Spare};
 ghost use Rattle.state.specs.View.{view};
 ghost use Rattle.executor.specs.Facts.{Listed, Seated, Entered, Counted, Spent};

@@ -1,4 +1,6 @@
 // The forms of a script: a setting or a task with its steps, one a line.
+#![tactic(auto)]
+
 pub mod fault;
 pub mod form;
 pub mod reader;

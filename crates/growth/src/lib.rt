@@ -1,4 +1,6 @@
 // How the supervision tree grows: the definitions stand in specs/, the lemmas in proofs/.
+#![tactic(auto)]
+
 ghost use Rattle.lineage.specs.Family.{Family};
 ghost use Rattle.growth.specs.Grows.{Grows};
 

@@ -1,4 +1,6 @@
 // Lists of records in ascending order of a key: the definitions stand in specs/, the lemmas in proofs/.
+#![tactic(auto)]
+
 ghost use Rattle.std.specs.Prelude.{ℕ};
 ghost use Rattle.keyed.specs.Laws.{Laws};
 

@@ -1,6 +1,6 @@
 -- The totals of the ledger, the history and the queues agree.
 use Rattle.std.proofs.Common.{◌≡◌, ℕ, ◌+◌, ◌<◌, ◌≤◌, cond, eqb, List, [], ◌∷◌, ◌++◌, map, length, Some, None, count_by, Option, sym, refl, ap, ◌∙◌, arith, length-append}
-use lib.ListN.{length_map}
+use lib.ListN.{length-map}
 use Rattle.std.proofs.lemmas.List.Sums.{sum_by-append}
 use Rattle.std.proofs.lemmas.List.Sorted.{length_permutation}
 use Rattle.entry.specs.declared.Entry.{Entry}
@@ -123,7 +123,7 @@ round_queuings r =
       acts_queuings r.acts,
       close_queuings r.close,
       length-append (all_of queuing r.acts) (tasks_of (rung r)),
-      length_map (rung r) (λ (a : Alarm). a.task),
+      length-map (rung r) (λ (a : Alarm). a.task),
     )
 
 -- the entries of rounds count what they deal

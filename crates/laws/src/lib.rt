@@ -1,4 +1,6 @@
 // The laws of every run, each proved of the definitions alone.
+#![tactic(auto)]
+
 mod queuing;
 mod ringing;
 mod runs;

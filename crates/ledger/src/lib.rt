@@ -1,4 +1,6 @@
 // The ledger of a run: entries written one after another into memory that the caller gives.
+#![tactic(auto)]
+
 ghost use Rattle.std.specs.Prelude.{◌≤◌, vec_len};
 
 mod counts;

@@ -1,4 +1,6 @@
 // Bytes line by line.
+#![tactic(auto)]
+
 ghost use Rattle.std.specs.Prelude.{◌≡◌, ◌<◌, length, IfSome, MatchOption};
 ghost use Rattle.std.specs.List.{prefix_len};
 ghost use Rattle.lines.specs.Lines.{in_line, text_of, unended, with_line};

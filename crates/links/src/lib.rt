@@ -1,4 +1,6 @@
 // The links of a supervision tree: from a node to each child that was linked below it, in linking order.
+#![tactic(auto)]
+
 ghost use Rattle.std.specs.Prelude.{◌≤◌, vec_len, vec_capacity};
 
 pub mod edits;

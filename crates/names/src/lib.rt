@@ -1,4 +1,6 @@
 // The names of a script's tasks: no name is given twice, and each name that is used is a task's.
+#![tactic(auto)]
+
 ghost use Rattle.std.specs.Prelude.{◌≡◌, [], map};
 ghost use Rattle.forms.specs.Views.{act_of, task_of};
 ghost use Rattle.grammar.specs.Reading.{is_among, is_known, all_known, is_named, misnamed, names_of};

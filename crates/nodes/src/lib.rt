@@ -1,4 +1,6 @@
 // The living nodes of a supervision tree, in ascending order of their serials.
+#![tactic(auto)]
+
 ghost use Rattle.std.specs.Prelude.{◌≡◌, ◌≤◌, true, vec_len, vec_capacity};
 ghost use Rattle.keyed.specs.Keyed.{ordered};
 ghost use Rattle.nodes.specs.Node.{serial_of};

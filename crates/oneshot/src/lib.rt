@@ -1,4 +1,6 @@
 // A cell that is sent once: empty, or the first value that was sent into it.
+#![tactic(auto)]
+
 ghost use Rattle.std.specs.Prelude.{◌≡◌, is_some, Some, None};
 ghost use Rattle.std.specs.Option.{option_map};
 ghost use Rattle.oneshot.specs.Cell.{held, sent, send_answer};

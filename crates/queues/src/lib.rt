@@ -1,4 +1,6 @@
 // The ids that wait for the next round, and those of this round that are not dealt yet.
+#![tactic(auto)]
+
 ghost use Rattle.std.specs.Prelude.{◌≤◌, vec_len, vec_capacity};
 ghost use Rattle.queues.specs.Limits.{most_waiting};
 

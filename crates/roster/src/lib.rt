@@ -1,4 +1,6 @@
 // Which tasks hold the stop signal, which wait for it, and which asked for completion.
+#![tactic(auto)]
+
 ghost use Rattle.std.specs.Prelude.{◌≡◌, ◌≤◌, true, vec_len, vec_capacity};
 ghost use Rattle.keyed.specs.Keyed.{ordered};
 ghost use Rattle.roster.specs.Row.{task_of, most_tasks};

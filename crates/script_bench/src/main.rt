@@ -1,4 +1,6 @@
 // Reads the script on standard input a thousand times, so that an instruction counter tells what one reading costs.
+#![tactic(auto)]
+
 use faults::read_fault::ReadFault;
 use script::read::read;
 use std::alloc::Global;

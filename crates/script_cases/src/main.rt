@@ -2,6 +2,8 @@
 //
 // Each line of a script follows a `|`. What follows a `.` goes in without an LF: the end of a script that has none there,
 // or a part of a long line.
+#![tactic(auto)]
+
 use faults::line::FaultLine;
 use faults::read_fault::ReadFault;
 use lines::split_line;

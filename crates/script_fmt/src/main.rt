@@ -1,4 +1,6 @@
 // Prints a script in its canonical spelling, or the line of the fault that it has.
+#![tactic(auto)]
+
 use faults::line::FaultLine;
 use faults::read_fault::ReadFault;
 use script::read::read;

@@ -1,4 +1,6 @@
 // The stop signal: running or stopped, who holds a signal, and when the stop is complete.
+#![tactic(auto)]
+
 ghost use Rattle.std.specs.Prelude.{◌≡◌, ◌≤◌, is_some, vec_len, vec_capacity};
 ghost use Rattle.oneshot.specs.Cell.{held};
 ghost use Rattle.roster.specs.Row.{most_tasks};

@@ -1,4 +1,6 @@
 // What the stop signal and its cells do, by example.
+#![tactic(auto)]
+
 #[cfg(test)]
 mod tests {
     use oneshot::OneShot;

@@ -1,4 +1,6 @@
 // The state of an executor: every part that a run works on, its memory reserved at the start.
+#![tactic(auto)]
+
 pub mod making;
 
 use alarms::Alarms;

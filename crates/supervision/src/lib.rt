@@ -1,4 +1,6 @@
 // The supervision tree: which context and task stands below which, and what an abort reaches.
+#![tactic(auto)]
+
 ghost use Rattle.lineage.specs.Family.{family_of};
 ghost use Rattle.supervision.specs.Sound.{Rooted, Shielded, Linked, Honest, Past, Kept, Single};
 

@@ -1,4 +1,6 @@
 // What a user of the supervision tree sees.
+#![tactic(auto)]
+
 #[cfg(test)]
 mod tests;
 

@@ -1,7 +1,7 @@
 -- What is read, written or removed in a list, seen in the list that a function makes of it, which ascends by a key.
 use Rattle.std.proofs.Common.{◌≡◌, ℕ, suc, ◌+◌, ◌<◌, true, List, [], ◌∷◌, ◌++◌, map, length, get_or, take, drop, set, Some, sym, ap, ◌∙◌, arith}
 use Rattle.std.specs.List.{remove}
-use Rattle.std.proofs.lemmas.List.{length_map, get_or-map, map-append, map_push, map-set, take-map, drop-map}
+use Rattle.std.proofs.lemmas.List.{length-map, get_or-map, map-append, map_push, map-set, take-map, drop-map}
 use Rattle.keyed.specs.Keyed.{ordered, find, change, without}
 use Rattle.keyed.proofs.Orders.{ordered_pushed, ordered_change, ordered_without}
 use Rattle.keyed.proofs.Places.{find_read, change_write, without_removal}
@@ -9,7 +9,7 @@ use Rattle.keyed.proofs.Places.{find_read, change_write, without_removal}
 -- f makes an element of the other list of each
 module _ {X Y : Type 0} (f : X → Y) where
   pub map_length : (xs : List X) (n : ℕ) → n ≡ length xs → n ≡ length (map f xs)
-  map_length xs n long = long ∙ sym (length_map xs f)
+  map_length xs n long = long ∙ sym (length-map xs f)
 
   -- x is read at a place of the list xs, of length n
   map_read : (xs : List X) (n i : ℕ) (x : X) → n ≡ length xs → x ≡ get_or xs i x → i < n → (d : Y) → get_or (map f xs) i d ≡ f x

@@ -1,4 +1,6 @@
 // The registered tasks of an executor.
+#![tactic(auto)]
+
 ghost use Rattle.std.specs.Prelude.{◌≡◌, ◌≤◌, true, vec_len, vec_capacity};
 ghost use Rattle.keyed.specs.Keyed.{ordered};
 ghost use Rattle.model.specs.Model.{id_of};

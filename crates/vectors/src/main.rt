@@ -1,4 +1,6 @@
 // Runs the CRC-32C examples that RFC 3720 prints, and writes each checksum as that document does: lowest byte first.
+#![tactic(auto)]
+
 use crc32c::checksum;
 use std::io;
 

@@ -6,13 +6,13 @@ use Rattle.names.specs.Names.{names_in}
 use Rattle.names.proofs.Naming.{all_known_turn, all_known_none}
 use Rattle.names.proofs.all_known.Goals as goal
 
-pub returns-then-not-is-known : goal.returns-then-not-is-known
-returns-then-not-is-known c =
-    sym (c.loop-step.invariant ∙ all_known_turn (names_in c.args.tasks.now) c.args.steps.now c.loop-step.step-index _ false c.loop-step-test.true c.if-not-is-known.ensures)
+pub returns-then-not-is_known : goal.returns-then-not-is_known
+returns-then-not-is_known c =
+    sym (c.loop-step.invariant ∙ all_known_turn (names_in c.args.tasks.now) c.args.steps.now c.loop-step.step-index _ false c.loop-step-test.true c.if-not-is_known.ensures)
 
 pub loop-step-preserved : goal.loop-step-preserved
 loop-step-preserved c =
-    c.loop-step.invariant ∙ all_known_turn (names_in c.args.tasks.now) c.args.steps.now c.loop-step.step-index _ true c.loop-step-test.true c.if-not-is-known.ensures
+    c.loop-step.invariant ∙ all_known_turn (names_in c.args.tasks.now) c.args.steps.now c.loop-step.step-index _ true c.loop-step-test.true c.if-not-is_known.ensures
 
 pub returns : goal.returns
 returns c =

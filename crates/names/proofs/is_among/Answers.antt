@@ -5,13 +5,13 @@ use Rattle.names.specs.Names.{names_in}
 use Rattle.names.proofs.Naming.{is_among_turn, is_among_none}
 use Rattle.names.proofs.is_among.Goals as goal
 
-pub returns-then-same-bytes : goal.returns-then-same-bytes
-returns-then-same-bytes c =
-    sym (c.loop-task.invariant ∙ is_among_turn c.args.name.now c.args.tasks.now c.loop-task.task-index c.task-item.result true c.loop-task-test.true c.task-item.is c.if-same-bytes.ensures)
+pub returns-then-same_bytes : goal.returns-then-same_bytes
+returns-then-same_bytes c =
+    sym (c.loop-task.invariant ∙ is_among_turn c.args.name.now c.args.tasks.now c.loop-task.task-index c.task-item.result true c.loop-task-test.true c.task-item.is c.if-same_bytes.ensures)
 
 pub loop-task-preserved : goal.loop-task-preserved
 loop-task-preserved c =
-    c.loop-task.invariant ∙ is_among_turn c.args.name.now c.args.tasks.now c.loop-task.task-index c.task-item.result false c.loop-task-test.true c.task-item.is c.if-same-bytes.ensures
+    c.loop-task.invariant ∙ is_among_turn c.args.name.now c.args.tasks.now c.loop-task.task-index c.task-item.result false c.loop-task-test.true c.task-item.is c.if-same_bytes.ensures
 
 pub returns : goal.returns
 returns c =

@@ -9,16 +9,16 @@ use Rattle.names.proofs.misnamed_line.Goals as goal
 pub loop-i-init : goal.loop-i-init
 loop-i-init c = misnamed_start (names_in c.args.tasks.now) (map task_of c.args.tasks.now)
 
-pub returns-then-not-is-named : goal.returns-then-not-is-named
-returns-then-not-is-named c =
+pub returns-then-not-is_named : goal.returns-then-not-is_named
+returns-then-not-is_named c =
     let tasks = c.args.tasks.now in
-    let tested = c.if-not-is-named.ensures ∙ ap (λ us. is_named (names_in tasks) (names_in us) (task_of c.index-tasks-i.result)) c.split-at.ensures.front in
+    let tested = c.if-not-is_named.ensures ∙ ap (λ us. is_named (names_in tasks) (names_in us) (task_of c.index-tasks-i.result)) c.split_at.ensures.front in
     sym (c.loop-i.invariant ∙ misnamed_turn (names_in tasks) tasks c.loop-i.i c.index-tasks-i.result false c.loop-i-test.true c.index-tasks-i.is tested)
 
 pub loop-i-preserved : goal.loop-i-preserved
 loop-i-preserved c =
     let tasks = c.args.tasks.now in
-    let tested = c.if-not-is-named.ensures ∙ ap (λ us. is_named (names_in tasks) (names_in us) (task_of c.index-tasks-i.result)) c.split-at.ensures.front in
+    let tested = c.if-not-is_named.ensures ∙ ap (λ us. is_named (names_in tasks) (names_in us) (task_of c.index-tasks-i.result)) c.split_at.ensures.front in
     c.loop-i.invariant ∙ misnamed_turn (names_in tasks) tasks c.loop-i.i c.index-tasks-i.result true c.loop-i-test.true c.index-tasks-i.is tested
 
 pub returns : goal.returns

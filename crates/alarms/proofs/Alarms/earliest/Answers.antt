@@ -3,4 +3,4 @@ use Rattle.alarms.proofs.Ringing.{earliest_so}
 use Rattle.alarms.proofs.Alarms.earliest.Goals as goal
 
 pub returns : goal.returns
-returns c = record { answer = c.first-time.ensures; least = earliest_so _ _ _ c.args.self.now.order c.first-time.ensures }
+returns c = record { answer = c.first_time.ensures; least = earliest_so _ _ _ c.args.self.now.order c.first_time.ensures }

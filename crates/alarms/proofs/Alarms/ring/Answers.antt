@@ -6,8 +6,8 @@ use Rattle.alarms.proofs.Alarms.ring.Goals as goal
 
 pub returns : goal.returns
 returns c = record {
-  answer = c.take-due.ensures.answer;
-  state = c.take-due.ensures.state;
-  first = rings_so _ _ _ _ _ c.args.self.now.order (ap (λ (B : Bells). B.alarms) c.take-due.ensures.state) c.take-due.ensures.answer;
+  answer = c.take_due.ensures.answer;
+  state = c.take_due.ensures.state;
+  first = rings_so _ _ _ _ _ c.args.self.now.order (ap (λ (B : Bells). B.alarms) c.take_due.ensures.state) c.take_due.ensures.answer;
   whole = whole_ringing _ _ _ c.args.self.now.order;
 }

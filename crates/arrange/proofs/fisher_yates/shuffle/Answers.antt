@@ -9,6 +9,6 @@ pub returns : goal.returns
 returns g c =
     let d = g.D.Draws in
     let items = c.args.items.now in
-    let after = c.swap-down.new.items in
-    let same = same_from_shuffled d.rule (deck (d.value c.args.source.now) items) (deck (d.value c.swap-down.new.source) after) c.swap-down.ensures in
-    record { order = c.swap-down.ensures; same = same; often = often_shuffled items after same; reach = every_order }
+    let after = c.swap_down.new.items in
+    let same = same_from_shuffled d.rule (deck (d.value c.args.source.now) items) (deck (d.value c.swap_down.new.source) after) c.swap_down.ensures in
+    record { order = c.swap_down.ensures; same = same; often = often_shuffled items after same; reach = every_order }

@@ -5,7 +5,7 @@ use Rattle.crc32c.proofs.register.take_bytes.Goals as goal
 
 pub loop-byte-preserved : goal.loop-byte-preserved
 loop-byte-preserved c =
-    c.take-byte-after.ensures
+    c.take_byte-after.ensures
     ∙ ap (λ register. after_byte register (get_or c.args.bytes.now c.loop-byte.byte-index 0)) c.loop-byte.invariant
     ∙ sym (fold_more after_byte c.args.register c.args.bytes.now c.loop-byte.byte-index 0 c.loop-byte-test.true)
 

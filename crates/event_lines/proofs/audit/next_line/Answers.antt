@@ -6,5 +6,5 @@ use Rattle.event_lines.proofs.audit.next_line.Goals as goal
 pub returns : goal.returns
 returns c =
     let bytes = c.args.bytes.now in
-    let some : length bytes ≡ 0 → ⊥ = eqb-false (length bytes) 0 (sym c.if-is-empty.ensures) in
-    record { cases = lines_of_only bytes c.in-default.ensures.cases some; shorter = omega arith }
+    let some : length bytes ≡ 0 → ⊥ = eqb-false (length bytes) 0 (sym c.if-is_empty.ensures) in
+    record { cases = lines_of_only bytes c.in_default.ensures.cases some; shorter = omega arith }

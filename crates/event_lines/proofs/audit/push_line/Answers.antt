@@ -7,7 +7,7 @@ pub returns : goal.returns
 returns c =
     let text = vec_items c.args.text.now in
     pushed_four text (hex_of c.args.digest) (codes "  ") c.args.line.now (10 ∷ []) _ _ _ _
-    (c.in-ok-extend-from-slice.ensures.items ∙ ap (λ (digits : List ℕ). text ++ digits) c.hex.ensures)
-    c.in-ok-extend-from-slice-2.ensures.items
-    c.in-ok-extend-from-slice-3.ensures.items
-    c.in-ok-push.ensures.items
+    (c.in_ok-extend_from_slice.ensures.items ∙ ap (λ (digits : List ℕ). text ++ digits) c.hex.ensures)
+    c.in_ok-extend_from_slice-2.ensures.items
+    c.in_ok-extend_from_slice-3.ensures.items
+    c.in_ok-push.ensures.items

@@ -6,6 +6,6 @@ use Rattle.event_lines.proofs.reader.read_event.Goals as goal
 pub returns : goal.returns
 returns c =
     record {
-      value = c.read-tokens.ensures ∙ ap event_in c.new-tokens.ensures.ahead;
+      value = c.read_tokens.ensures ∙ ap event_in c.new-tokens.ensures.ahead;
       exact = event_exact c.args.line.now;
     }

@@ -4,11 +4,11 @@ use Rattle.ledger.specs.Book.{Book, view, free}
 use Rattle.ledger.proofs.Books.{book_of_write, free_view, free_written}
 use Rattle.ledger.proofs.Ledger.write.Goals as goal
 
-pub index-mut-requires : goal.index-mut-requires
-index-mut-requires c = let places = free_view c.args.self.now in omega (arith, c.requires.room)
+pub index_mut-requires : goal.index_mut-requires
+index_mut-requires c = let places = free_view c.args.self.now in omega (arith, c.requires.room)
 
-pub invariant-of-self : goal.invariant-of-self
-invariant-of-self c = let places = free_view c.args.self.now in search rules
+pub invariant_of-self : goal.invariant_of-self
+invariant_of-self c = let places = free_view c.args.self.now in search rules
 
 pub returns : goal.returns
 returns c =

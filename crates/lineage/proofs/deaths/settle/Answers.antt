@@ -13,4 +13,4 @@ pub loop-node-preserved : goal.loop-node-preserved
 loop-node-preserved c = settle_more _ (family_of c.loop-node.nodes c.loop-node.links) (family_of c.bury.new.nodes c.bury.new.links) c.in-Some.node c.loop-node.nodes.order (sym c.in-Some.ensures) c.bury.ensures ∙ c.loop-node.invariant
 
 pub returns : goal.returns
-returns c = sym (settle_end (family_of c.loop-node.nodes c.loop-node.links) (sym c.in-default.ensures)) ∙ c.loop-node.invariant
+returns c = sym (settle_end (family_of c.loop-node.nodes c.loop-node.links) (sym c.in_default.ensures)) ∙ c.loop-node.invariant

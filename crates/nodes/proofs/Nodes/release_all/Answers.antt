@@ -7,8 +7,8 @@ use Rattle.nodes.specs.Living.{living}
 use Rattle.nodes.proofs.Lists.{released_serial, mapped_all}
 use Rattle.nodes.proofs.Nodes.release_all.Goals as goal
 
-pub invariant-of-self : goal.invariant-of-self
-invariant-of-self c =
+pub invariant_of-self : goal.invariant_of-self
+invariant_of-self c =
     let o = ordered_set serial_of 0 _ _ c.loop-i.i c.index-node.result.now c.released.result c.loop-i.self.order c.index-node.ensures (ap serial_of c.released.ensures ∙ released_serial c.args.task c.index-node.result.now) in
     search rules
 

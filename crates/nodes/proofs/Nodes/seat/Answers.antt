@@ -9,5 +9,5 @@ returns-in-Some c = record {
   next = c.put.ensures.next;
 }
 
-pub returns-in-default : goal.returns-in-default
-returns-in-default c = record { nodes = sym (change_missing serial_of (taken c.args.task) _ _ (sym c.in-default.ensures)); next = refl }
+pub returns-in_default : goal.returns-in_default
+returns-in_default c = record { nodes = sym (change_missing serial_of (taken c.args.task) _ _ (sym c.in_default.ensures)); next = refl }

@@ -7,8 +7,8 @@ use Rattle.nodes.specs.Living.{living}
 use Rattle.nodes.proofs.Lists.{vacated_serial, mapped_all}
 use Rattle.nodes.proofs.Nodes.vacate.Goals as goal
 
-pub invariant-of-self : goal.invariant-of-self
-invariant-of-self c =
+pub invariant_of-self : goal.invariant_of-self
+invariant_of-self c =
     let o = ordered_set serial_of 0 _ _ c.loop-i.i c.index-node.result.now c.vacated.result c.loop-i.self.order c.index-node.ensures (ap serial_of c.vacated.ensures ∙ vacated_serial c.args.task c.index-node.result.now) in
     search rules
 

@@ -6,13 +6,13 @@ use Rattle.roster.specs.Row.{task_of}
 use Rattle.roster.proofs.Rows.{roll}
 use Rattle.roster.proofs.Roster.strike.Goals as goal
 
-pub invariant-of-self : goal.invariant-of-self
-invariant-of-self c =
+pub invariant_of-self : goal.invariant_of-self
+invariant_of-self c =
     let o = ordered_removal task_of _ _ _ _ _ c.args.self.now.order c.args.self.now.rows.ok.0 c.in-Some.ensures.0 c.in-Some.ensures.1 _ c.remove.result c.remove.ensures.items in
     search rules
 
 pub returns-in-Some : goal.returns-in-Some
 returns-in-Some c = ap (λ (l : List Row). roll l c.args.self.now.next) (without_removal task_of _ _ _ _ _ c.args.self.now.order c.args.self.now.rows.ok.0 c.in-Some.ensures.0 c.in-Some.ensures.1 _ c.remove.result c.remove.ensures.items)
 
-pub returns-in-default : goal.returns-in-default
-returns-in-default c = ap (λ (l : List Row). roll l c.args.self.now.next) (sym (without_none task_of c.args.task (vec_items c.args.self.now.rows) c.in-default.ensures))
+pub returns-in_default : goal.returns-in_default
+returns-in_default c = ap (λ (l : List Row). roll l c.args.self.now.next) (sym (without_none task_of c.args.task (vec_items c.args.self.now.rows) c.in_default.ensures))

@@ -6,13 +6,13 @@ use Rattle.roster.specs.Row.{task_of, stepped}
 use Rattle.roster.proofs.Rows.{roll}
 use Rattle.roster.proofs.Roster.turn.Goals as goal
 
-pub invariant-of-self : goal.invariant-of-self
-invariant-of-self c =
+pub invariant_of-self : goal.invariant_of-self
+invariant_of-self c =
     let o = ordered_write task_of _ _ _ _ _ c.args.self.now.order c.args.self.now.rows.ok.0 c.in-Some.ensures.0 c.in-Some.ensures.1 (stepped c.args.step) (λ _. refl) _ _ c.index-row.ensures c.after.ensures in
     search rules
 
 pub returns-in-Some : goal.returns-in-Some
 returns-in-Some c = ap (λ (l : List Row). roll l c.args.self.now.next) (change_write task_of _ _ _ _ _ c.args.self.now.order c.args.self.now.rows.ok.0 c.in-Some.ensures.0 c.in-Some.ensures.1 (stepped c.args.step) _ _ c.index-row.ensures c.after.ensures)
 
-pub returns-in-default : goal.returns-in-default
-returns-in-default c = ap (λ (l : List Row). roll l c.args.self.now.next) (sym (change_none task_of (stepped c.args.step) c.args.task (vec_items c.args.self.now.rows) c.in-default.ensures))
+pub returns-in_default : goal.returns-in_default
+returns-in_default c = ap (λ (l : List Row). roll l c.args.self.now.next) (sym (change_none task_of (stepped c.args.step) c.args.task (vec_items c.args.self.now.rows) c.in_default.ensures))

@@ -7,7 +7,7 @@ pub returns : goal.returns
 returns c =
     let bytes = c.args.bytes.now in
     record {
-      plan = c.read-plan.ensures;
+      plan = c.read_plan.ensures;
       exact = exact bytes;
       once = one_reading bytes;
       respelled = respelled bytes;

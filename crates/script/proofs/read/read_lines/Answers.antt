@@ -12,20 +12,20 @@ returns-in-Err c =
     let whole = draft_of 1 blank (text_of c.args.bytes.now).lines (text_of c.args.bytes.now).rest in
     let cut = c.in-Some.ensures.cases in
     subst (λ (e : ReadFault). Agrees said_in (Err e) whole) (sym c.at.ensures)
-    (agrees_refused said_in c.loop-line.number c.in-Err.fault (said_in c.take-line.new.self) _ whole c.in-Err.ensures
+    (agrees_refused said_in c.loop-line.number c.in-Err.fault (said_in c.take_line.new.self) _ whole c.in-Err.ensures
     (λ f refused. c.loop-line.invariant.0 ∙ draft_of_refused c.loop-line.number (said_in c.loop-line.draft) f _ _ _ cut refused))
 
 pub loop-line-preserved : goal.loop-line-preserved
 loop-line-preserved c =
     let split = c.in-Some.ensures in (
-      c.loop-line.invariant.0 ∙ draft_of_line c.loop-line.number (said_in c.loop-line.draft) (said_in c.take-line.new.self) _ _ _ split.cases c.in-Ok.ensures,
+      c.loop-line.invariant.0 ∙ draft_of_line c.loop-line.number (said_in c.loop-line.draft) (said_in c.take_line.new.self) _ _ _ split.cases c.in-Ok.ensures,
       omega (arith, c.loop-line.invariant.1, split.shorter),
     )
 
-pub returns-then-not-is-empty : goal.returns-then-not-is-empty
-returns-then-not-is-empty c =
-    c.loop-line.invariant.0 ∙ draft_of_end c.loop-line.number (said_in c.loop-line.draft) c.loop-line.rest.now false c.in-default.ensures.cases c.if-not-is-empty.ensures
+pub returns-then-not-is_empty : goal.returns-then-not-is_empty
+returns-then-not-is_empty c =
+    c.loop-line.invariant.0 ∙ draft_of_end c.loop-line.number (said_in c.loop-line.draft) c.loop-line.rest.now false c.in_default.ensures.cases c.if-not-is_empty.ensures
 
 pub returns : goal.returns
 returns c =
-    c.loop-line.invariant.0 ∙ draft_of_end c.loop-line.number (said_in c.loop-line.draft) c.loop-line.rest.now true c.in-default.ensures.cases c.if-not-is-empty.ensures
+    c.loop-line.invariant.0 ∙ draft_of_end c.loop-line.number (said_in c.loop-line.draft) c.loop-line.rest.now true c.in_default.ensures.cases c.if-not-is_empty.ensures

@@ -4,7 +4,7 @@ use Rattle.signal.specs.Switch.{stop_value}
 use Rattle.signal.proofs.Completes.{complete_given}
 use Rattle.signal.proofs.Stopper.stopped.Goals as goal
 
-pub invariant-of-self : goal.invariant-of-self
-invariant-of-self c =
+pub invariant_of-self : goal.invariant_of-self
+invariant_of-self c =
     let tied = c.args.self.now.settled ∙ sym (complete_given (stop_value c.args.self.now.switch) _ _ _ _ c.offer-step.ensures c.turn.ensures) in
     search rules

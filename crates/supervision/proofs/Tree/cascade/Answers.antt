@@ -7,8 +7,8 @@ use Rattle.supervision.proofs.Counting.{cascade_law_of, whole_cascaded}
 use Rattle.supervision.proofs.Ages.{aged_cascaded, next_cascaded}
 use Rattle.supervision.proofs.Tree.cascade.Goals as goal
 
-pub invariant-of-self : goal.invariant-of-self
-invariant-of-self c = facts_of (family_of c.abort.new.nodes c.abort.new.links) _ c.abort.ensures.after (whole_cascaded c.args.node (view c.args.self.now) (whole_of c.args.self.now))
+pub invariant_of-self : goal.invariant_of-self
+invariant_of-self c = facts_of (family_of c.abort.new.nodes c.abort.new.links) _ c.abort.ensures.after (whole_cascaded c.args.node (view c.args.self.now) (whole_of c.args.self.now))
 
 pub returns : goal.returns
 returns c = record {

@@ -7,11 +7,11 @@ use Rattle.supervision.proofs.Whole.{facts_of, whole_of, whole_alone, whole_born
 use Rattle.supervision.proofs.Ages.{aged_orphaned, aged_born, next_born}
 use Rattle.supervision.proofs.Tree.child.Goals as goal
 
-pub invariant-of-self : goal.invariant-of-self
-invariant-of-self c = facts_of (family_of c.add-serial.new.self c.args.self.now.links) _ (same_family c.add-serial.ensures.nodes refl c.add-serial.ensures.next) (whole_alone true c.args.task (view c.args.self.now) (whole_of c.args.self.now))
+pub invariant_of-self : goal.invariant_of-self
+invariant_of-self c = facts_of (family_of c.add-serial.new.self c.args.self.now.links) _ (same_family c.add-serial.ensures.nodes refl c.add-serial.ensures.next) (whole_alone true c.args.task (view c.args.self.now) (whole_of c.args.self.now))
 
-pub returns-then-is-aborted : goal.returns-then-is-aborted
-returns-then-is-aborted c = record {
+pub returns-then-is_aborted : goal.returns-then-is_aborted
+returns-then-is_aborted c = record {
   answer = search rules;
   state = search rules;
   marks = refl;
@@ -19,10 +19,10 @@ returns-then-is-aborted c = record {
   next = omega (arith, c.add-serial.ensures.next);
 }
 
-pub invariant-of-self-2 : goal.invariant-of-self-2
-invariant-of-self-2 c =
-    let node = open_lives c.args.task c.args.context (view c.args.self.now) (not_refused c.args.task c.args.context (view c.args.self.now) (sym c.in-default.ensures)) in
-    let quiet = flag_at c.args.context (view c.args.self.now) node.0 false node.1 (sym c.if-is-aborted.ensures.answer) in
+pub invariant_of-self-2 : goal.invariant_of-self-2
+invariant_of-self-2 c =
+    let node = open_lives c.args.task c.args.context (view c.args.self.now) (not_refused c.args.task c.args.context (view c.args.self.now) (sym c.in_default.ensures)) in
+    let quiet = flag_at c.args.context (view c.args.self.now) node.0 false node.1 (sym c.if-is_aborted.ensures.answer) in
     facts_of (family_of c.bear-serial.new.nodes c.bear-serial.new.links) _ c.bear-serial.ensures.after (whole_born c.args.context c.args.task (view c.args.self.now) node.0 node.1 quiet (whole_of c.args.self.now))
 
 pub returns : goal.returns

@@ -8,12 +8,12 @@ use Rattle.supervision.proofs.Whole.{facts_of, whole_of, whole_closed_all}
 use Rattle.supervision.proofs.Ages.{aged_closed_all, next_settled}
 use Rattle.supervision.proofs.Tree.close_all.Goals as goal
 
-pub invariant-of-self : goal.invariant-of-self
-invariant-of-self c =
-    let same = c.settle.ensures ∙ ap settled (same_family c.release-all.ensures.nodes refl c.release-all.ensures.next) in
+pub invariant_of-self : goal.invariant_of-self
+invariant_of-self c =
+    let same = c.settle.ensures ∙ ap settled (same_family c.release_all.ensures.nodes refl c.release_all.ensures.next) in
     facts_of (family_of c.settle.new.nodes c.settle.new.links) _ same (whole_closed_all c.args.task (view c.args.self.now) (whole_of c.args.self.now))
 
 pub returns : goal.returns
 returns c =
-    let same = c.settle.ensures ∙ ap settled (same_family c.release-all.ensures.nodes refl c.release-all.ensures.next) in
-    record { state = same; marks = refl; serials = subst (Aged (view c.args.self.now)) (sym same) (aged_closed_all c.args.task (view c.args.self.now)); next = ap (λ (f : Family). f.next) c.settle.ensures ∙ (next_settled (family_of c.release-all.new.self c.args.self.now.links) ∙ c.release-all.ensures.next) }
+    let same = c.settle.ensures ∙ ap settled (same_family c.release_all.ensures.nodes refl c.release_all.ensures.next) in
+    record { state = same; marks = refl; serials = subst (Aged (view c.args.self.now)) (sym same) (aged_closed_all c.args.task (view c.args.self.now)); next = ap (λ (f : Family). f.next) c.settle.ensures ∙ (next_settled (family_of c.release_all.new.self c.args.self.now.links) ∙ c.release_all.ensures.next) }

@@ -8,8 +8,8 @@ use Rattle.supervision.proofs.Whole.{facts_of, whole_of, whole_left}
 use Rattle.supervision.proofs.Ages.{aged_left, next_settled}
 use Rattle.supervision.proofs.Tree.leave.Goals as goal
 
-pub invariant-of-self : goal.invariant-of-self
-invariant-of-self c =
+pub invariant_of-self : goal.invariant_of-self
+invariant_of-self c =
     let same = c.settle.ensures ∙ ap settled (same_family c.vacate.ensures.nodes refl c.vacate.ensures.next) in
     facts_of (family_of c.settle.new.nodes c.settle.new.links) _ same (whole_left c.args.task (view c.args.self.now) (whole_of c.args.self.now))
 

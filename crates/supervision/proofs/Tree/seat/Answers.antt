@@ -8,8 +8,8 @@ use Rattle.supervision.proofs.Whole.{facts_of, whole_of, whole_seated, open_live
 use Rattle.supervision.proofs.Ages.{aged_seated, next_born}
 use Rattle.supervision.proofs.Tree.seat.Goals as goal
 
-pub invariant-of-self : goal.invariant-of-self
-invariant-of-self c =
+pub invariant_of-self : goal.invariant_of-self
+invariant_of-self c =
     let same = same_family c.seat.ensures.nodes refl c.seat.ensures.next ∙ ap (changed (taken c.args.task) c.args.context) c.bear-serial.ensures.after in
     let node = open_lives c.args.holder c.args.context (view c.args.self.now) c.requires.open in
     facts_of (family_of c.seat.new.self c.bear-serial.new.links) _ same

@@ -8,8 +8,8 @@ use Rattle.supervision.proofs.Whole.{facts_of, whole_of, whole_closed}
 use Rattle.supervision.proofs.Ages.{aged_closed, next_settled}
 use Rattle.supervision.proofs.Tree.spend.Goals as goal
 
-pub invariant-of-self : goal.invariant-of-self
-invariant-of-self c =
+pub invariant_of-self : goal.invariant_of-self
+invariant_of-self c =
     let same = c.settle.ensures ∙ ap settled (same_family c.release.ensures.nodes refl c.release.ensures.next) in
     facts_of (family_of c.settle.new.nodes c.settle.new.links) _ same (whole_closed c.args.context (view c.args.self.now) (whole_of c.args.self.now))
 

@@ -5,15 +5,15 @@ use Rattle.tokens.proofs.number.read_up_to.Goals as goal
 pub loop-byte-init : goal.loop-byte-init
 loop-byte-init c = on_up_to_start c.args.most c.args.digits.now (search rules)
 
-pub returns-in-default : goal.returns-in-default
-returns-in-default c =
-    let no = turn_no_digit c.args.most c.loop-byte.number c.loop-byte.byte-index c.args.digits.now c.loop-byte-test.true c.in-default.ensures in
+pub returns-in_default : goal.returns-in_default
+returns-in_default c =
+    let no = turn_no_digit c.args.most c.loop-byte.number c.loop-byte.byte-index c.args.digits.now c.loop-byte-test.true c.in_default.ensures in
     record { value = as_fault _ (c.loop-byte.invariant ∙ no); within = tt }
 
-pub returns-in-default-shift : goal.returns-in-default-shift
-returns-in-default-shift c =
+pub returns-in_default-shift : goal.returns-in_default-shift
+returns-in_default-shift c =
     let digit = c.in-Some.ensures.1 in
-    let past = c.in-default-shift.ensures in
+    let past = c.in_default-shift.ensures in
     let most = c.ranges.most.fits in
     let far : c.args.most < c.loop-byte.number * 10 + (get_or c.args.digits.now c.loop-byte.byte-index 0 - 48) = omega arith in
     let no = turn_past c.args.most c.loop-byte.number c.loop-byte.byte-index c.args.digits.now c.loop-byte-test.true far in

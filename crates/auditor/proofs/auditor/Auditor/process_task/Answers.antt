@@ -12,10 +12,10 @@ returns c =
     let name = codes "process_task" in
     let begun = c.begin-hasher.ensures.taken in
     let with_id = c.update.ensures.taken (digest ∷ name ∷ []) begun in
-    let with_label = c.update-2.ensures.taken (digest ∷ name ∷ c.id-bytes-id.result ∷ []) with_id in
+    let with_label = c.update-2.ensures.taken (digest ∷ name ∷ c.id_bytes-id.result ∷ []) with_id in
     let after =
-    c.finalize-self.ensures.value (digest ∷ name ∷ c.id-bytes-id.result ∷ label ∷ []) with_label
-    ∙ ap (λ (id : List ℕ). digest_of_parts (digest ∷ name ∷ id ∷ label ∷ [])) c.id-bytes-id.ensures in
+    c.finalize-self.ensures.value (digest ∷ name ∷ c.id_bytes-id.result ∷ label ∷ []) with_label
+    ∙ ap (λ (id : List ℕ). digest_of_parts (digest ∷ name ∷ id ∷ label ∷ [])) c.id_bytes-id.ensures in
     let four : length digest ≡ 4 = search rules in
     record {
       after = after;

@@ -14,8 +14,8 @@ returns c =
     let begun = c.begin-hasher.ensures.taken in
     let added = c.update.ensures.taken (digest ∷ codes "stop" ∷ []) begun in
     let after =
-    c.finalize-self.ensures.value (digest ∷ codes "stop" ∷ c.value-bytes-value.result ∷ []) added
-    ∙ ap (λ (bytes : List ℕ). digest_of_parts (digest ∷ codes "stop" ∷ bytes ∷ [])) (c.value-bytes-value.ensures ∙ ap (λ (v : ℤ). big_endian 4 (two's_complement v)) (to_z-of_z w32 value c.ranges.value)) in
+    c.finalize-self.ensures.value (digest ∷ codes "stop" ∷ c.value_bytes-value.result ∷ []) added
+    ∙ ap (λ (bytes : List ℕ). digest_of_parts (digest ∷ codes "stop" ∷ bytes ∷ [])) (c.value_bytes-value.ensures ∙ ap (λ (v : ℤ). big_endian 4 (two's_complement v)) (to_z-of_z w32 value c.ranges.value)) in
     let four : length digest ≡ 4 = search rules in
     record {
       after = after;

@@ -7,5 +7,5 @@ pub returns : goal.returns
 returns c =
     record {
       unambiguous = framed_apart;
-      value = λ parts is. c.digest-bytes.ensures ∙ ap (λ (checksum : ℕ). big_endian 4 checksum) (c.finalize.ensures.value (framed parts) is);
+      value = λ parts is. c.digest_bytes.ensures ∙ ap (λ (checksum : ℕ). big_endian 4 checksum) (c.finalize.ensures.value (framed parts) is);
     }

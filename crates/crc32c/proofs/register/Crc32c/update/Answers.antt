@@ -7,6 +7,6 @@ pub returns : goal.returns
 returns c =
     let fed = c.args.bytes.now in
     record {
-      register = c.take-bytes-self.ensures;
-      fed = λ before is. c.take-bytes-self.ensures ∙ ap (λ (register : ℕ). after_bytes register fed) is ∙ sym (after_bytes_append ones before fed);
+      register = c.take_bytes-self.ensures;
+      fed = λ before is. c.take_bytes-self.ensures ∙ ap (λ (register : ℕ). after_bytes register fed) is ∙ sym (after_bytes_append ones before fed);
     }

@@ -10,7 +10,7 @@ use Rattle.lineage.proofs.walk.Walk.abort.Goals as goal
 
 pub loop-next-init : goal.loop-next-init
 loop-next-init c =
-    let one = c.push-reserved.ensures.items ∙ ap (λ (l : List ℕ). l ++ c.args.top ∷ []) c.clear.ensures.items in
+    let one = c.push_reserved.ensures.items ∙ ap (λ (l : List ℕ). l ++ c.args.top ∷ []) c.clear.ensures.items in
     let long = ap length one in
     let none = ap length c.clear-2.ensures.items in (
       going_start _ (family_of c.args.nodes.now c.args.links.now) c.args.top _ _ (omega (arith, long)) one c.clear-2.ensures.items,
@@ -40,5 +40,5 @@ loop-next-preserved c =
 
 pub returns : goal.returns
 returns c =
-    let end = going_end _ _ (family_of c.loop-next.nodes c.loop-next.links) _ _ c.loop-next.invariant.0 (nil_from_length _ (omega (arith, c.loop-next.self.waiting.ok.0, c.in-default.ensures.cases.0))) in
+    let end = going_end _ _ (family_of c.loop-next.nodes c.loop-next.links) _ _ c.loop-next.invariant.0 (nil_from_length _ (omega (arith, c.loop-next.self.waiting.ok.0, c.in_default.ensures.cases.0))) in
     record { after = end.0; marks = end.1 }

@@ -22,9 +22,9 @@ gather-requires c =
     let same = ap length c.note.ensures.waiting in
     omega (arith, same, c.requires.waiting, c.note.new.self.waiting.ok.0, c.note.new.self.waiting_room)
 
-pub returns-in-default : goal.returns-in-default
-returns-in-default c =
-    let dead = step_dead c.args.serial (family_of c.args.nodes.now c.args.links.now) (sym c.in-default.ensures) in
+pub returns-in_default : goal.returns-in_default
+returns-in_default c =
+    let dead = step_dead c.args.serial (family_of c.args.nodes.now c.args.links.now) (sym c.in_default.ensures) in
     record {
       after = ap (λ (v : Step). v.after) (sym dead);
       waiting = sym (append-nil (to_visit c.args.self.now)) ∙ ap (λ (v : Step). to_visit c.args.self.now ++ v.below) (sym dead);

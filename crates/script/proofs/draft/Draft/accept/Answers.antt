@@ -5,10 +5,10 @@ use Rattle.script.specs.Drafts.{said_in}
 use Rattle.script.proofs.Places.{drafted_task}
 use Rattle.script.proofs.draft.Draft.accept.Goals as goal
 
-pub returns-in-ok-push : goal.returns-in-ok-push
-returns-in-ok-push c =
+pub returns-in_ok-push-in-Task : goal.returns-in_ok-push-in-Task
+returns-in_ok-push-in-Task c =
     let self = c.args.self.now in
     let task = c.in-Task.task in
     drafted_task c.args.line (says_of c.args.form) task.name.now (acts_of task) (said_in self) _
-    (ap says_of c.in-Task.is) c.if-not-has-room.ensures
-    (ap (map task_of) c.in-ok-push.ensures.items ∙ map_push task_of (vec_items self.tasks) _)
+    (ap says_of c.in-Task.is) c.if-not-has_room.ensures
+    (ap (map task_of) c.in_ok-push-in-Task.ensures.items ∙ map_push task_of (vec_items self.tasks) _)
