@@ -4,6 +4,7 @@
 use anyhow::anyhow;
 use event_lines::audit::audit_input;
 use std::io::{Read, Write};
+use std::process::ExitCode;
 use std::{env, fs};
 
 const USAGE: &str = "usage: audit [FILE]";
@@ -45,8 +46,9 @@ fn run(rt: &HostRuntime, name: Option<&str>) -> anyhow::Result<()> {
     show(rt, &input)
 }
 
-fn main(rt: HostRuntime) -> anyhow::Result<()> {
-    let mut args = env::args(&rt)?;
+// Audits the file that is named on the command line, if one is.
+fn start(rt: &HostRuntime) -> anyhow::Result<()> {
+    let mut args = env::args(rt)?;
     let _program = args.next();
     let name = args.next();
     if args.next().is_some() {
@@ -54,7 +56,15 @@ fn main(rt: HostRuntime) -> anyhow::Result<()> {
         return Err(anyhow!("too many arguments"));
     }
     match &name {
-        Some(path) => run(&rt, Some(path.as_str())),
-        None => run(&rt, None),
+        Some(path) => run(rt, Some(path.as_str())),
+        None => run(rt, None),
+    }
+}
+
+// What fails is told before, so its error sets the status alone.
+fn main(rt: HostRuntime) -> ExitCode {
+    match start(&rt) {
+        Ok(()) => ExitCode::SUCCESS,
+        Err(_) => ExitCode::FAILURE,
     }
 }

@@ -1,9 +1,9 @@
 -- Two different events never hash the same bytes: the lengths say where each part ends.
-use Rattle.std.proofs.Common.{◌≡◌, ℕ, suc, ◌-◌, ◌^◌, ◌<◌, List, [], ◌∷◌, ◌++◌, length, get_or, ℤ, pos, negsuc, codes, sym, refl, ap, ◌∙◌, append-nil, arith, w32, SFits}
+use Rattle.std.proofs.Common.{◌≡◌, ℕ, ◌^◌, ◌<◌, List, [], ◌∷◌, ◌++◌, length, get_or, ℤ, pos, negsuc, codes, sym, refl, ap, ◌∙◌, append-nil, arith, w32, SFits}
 use mathlib.Core.List.{head-eq_of_cons-eq, tail-eq_of_cons-eq}
-use Rattle.auditor.specs.Bytes.{big_endian, framed, Short, Unambiguous}
+use Rattle.auditor.specs.Bytes.{big_endian, framed, Unambiguous}
 use Rattle.auditor.specs.Events.{Event, process_task, stop, stopped, name_of, parts_of, two's_complement, Signed32, Possible, Unmistakable}
-use Rattle.auditor.proofs.Endian.{big_endian_length, big_endian_injective}
+use Rattle.auditor.proofs.Endian.{big_endian_injective}
 
 -- equal lists whose fronts are equally long have equal fronts and equal rests
 append_apart : (front other rest tail : List ℕ) → length front ≡ length other → front ++ rest ≡ other ++ tail → (front ≡ other) × (rest ≡ tail)

@@ -3,7 +3,7 @@
 -- polynomial   0x11EDC6F41, here its 32 coefficients below the highest power, 0x1EDC6F41
 -- reflected    every byte is taken from its lowest bit, so the register shifts down and the polynomial is turned round
 -- register     begins as 32 ones; what is left after the last bit is complemented
-use Rattle.std.specs.Prelude.{◌≡◌, ℕ, zero, suc, ◌+◌, ◌*◌, ◌/◌, ◌%◌, ◌^◌, List, ◌++◌, fold, bit_xor}
+use Rattle.std.specs.Prelude.{ℕ, zero, suc, ◌+◌, ◌*◌, ◌/◌, ◌%◌, ◌^◌, List, fold, bit_xor}
 
 -- the lowest n bits of x in the other order
 abbrev pub reversed : ℕ → ℕ → ℕ

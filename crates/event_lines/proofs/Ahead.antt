@@ -1,5 +1,5 @@
 -- What an answer to a question about the next token tells of the tokens ahead.
-use Rattle.std.proofs.Common.{◌≡◌, ℕ, Bool, true, false, ◌⊎◌, List, [], ◌∷◌, is_some, Some, None, Option, unwrap_or, sym, refl, ap, ◌∙◌, inl, inr}
+use Rattle.std.proofs.Common.{◌≡◌, ℕ, true, ◌⊎◌, List, [], ◌∷◌, is_some, Some, None, unwrap_or, refl, ap, inl, inr}
 use mathlib.Core.Bool.{false≢true}
 use Rattle.tokens.specs.Cursor.{later}
 use Rattle.tokens.specs.Expected.{opens, first_word, first_number, first_name, is_over, closes}

@@ -1,8 +1,7 @@
 -- What is told so far, and what is still to tell.
-use Rattle.std.proofs.Common.{◌≡◌, ℕ, ◌+◌, cond, List, [], ◌∷◌, ◌++◌, length, Some, None, Ok, Err, Option, Result, sym, refl, ap, ◌∙◌, append_assoc, append-nil}
+use Rattle.std.proofs.Common.{◌≡◌, ℕ, ◌+◌, List, [], ◌∷◌, ◌++◌, length, Some, None, Ok, Err, Option, Result, sym, refl, ap, ◌∙◌, append_assoc, append-nil}
 use Rattle.auditor.specs.Events.{Event}
 use Rattle.lines.specs.Lines.{Text, text_of, unended, with_line}
-use Rattle.event_lines.specs.declared.event.Misread.{Misread}
 use Rattle.event_lines.specs.declared.event.Trouble.{Trouble}
 use Rattle.event_lines.specs.Lines.{event_of}
 use Rattle.event_lines.proofs.Ahead.{none_some}

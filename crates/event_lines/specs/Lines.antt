@@ -1,5 +1,5 @@
 -- The event that the tokens of a line are, or what is wrong with them.
-use Rattle.std.specs.Prelude.{ℕ, cond, List, [], ◌∷◌, ℤ, Some, None, Ok, Err, codes, Option, Result}
+use Rattle.std.specs.Prelude.{ℕ, cond, List, ℤ, Some, None, Ok, Err, codes, Option, Result}
 use Rattle.std.specs.Str.{bytes_eq}
 use Rattle.auditor.specs.Events.{Event, process_task, stop, stopped}
 use Rattle.tokens.specs.Cursor.{later}

@@ -4,7 +4,7 @@
 -- outcome      what is told up to the first line that is no event, and which line that is
 use Rattle.std.specs.Prelude.{ℕ, ◌+◌, ◌/◌, ◌%◌, cond, List, [], ◌∷◌, ◌++◌, Some, None, Ok, Err, codes, decimal, Option, Result, nat_lt}
 use Rattle.auditor.specs.Events.{Event, digest_after, no_digest}
-use Rattle.lines.specs.Lines.{Text, text_of}
+use Rattle.lines.specs.Lines.{text_of}
 use Rattle.event_lines.specs.declared.event.Misread.{Misread}
 use Rattle.event_lines.specs.declared.event.Trouble.{Trouble}
 use Rattle.event_lines.specs.declared.event.Trouble.TheVariants.{NoEvent, NoId, NoValue}

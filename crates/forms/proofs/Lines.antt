@@ -1,10 +1,9 @@
 -- The form of a line whose opening bracket and keyword are known. Assumes nothing.
-use Rattle.std.proofs.Common.{◌≡◌, ℕ, Bool, true, cond, List, [], ◌∷◌, Some, None, Option, sym, refl, ap, ◌∙◌}
+use Rattle.std.proofs.Common.{◌≡◌, ℕ, Bool, true, cond, List, [], ◌∷◌, Some, None, sym, refl, ap, ◌∙◌}
 use Rattle.tokens.specs.Cursor.{later}
 use Rattle.tokens.specs.Expected.{opens, first_word}
 use Rattle.tokens.specs.Tokens.{Mark, opening, closing, word, number, stray}
 use Rattle.forms.specs.Forms.{bind, form_by, form_after, form_in}
-use Rattle.forms.specs.Meaning.{Says}
 
 form_after_word : (ms : List Mark) → form_after ms ≡ bind (first_word ms) (λ k. form_by k (later ms))
 form_after_word [] = refl

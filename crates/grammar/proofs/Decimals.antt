@@ -1,12 +1,12 @@
 -- What is written of a number is a number, and a word without LF.
-use Rattle.std.proofs.Common.{◌≡◌, ℕ, suc, ◌+◌, ◌-◌, ◌*◌, ◌^◌, ◌<◌, ◌≤◌, Bool, true, false, not, ◌&&◌, eqb, leb, List, [], ◌∷◌, length, ℤ, pos, negsuc, neg_ℤ, ◌≤ℤ◌, ◌<ℤ◌, decimal, sym, refl, ap, ◌∙◌, arith, ltb→lt, leb→le, rules}
+use Rattle.std.proofs.Common.{◌≡◌, ℕ, suc, ◌^◌, ◌<◌, true, false, not, eqb, leb, List, [], ◌∷◌, length, ℤ, pos, negsuc, decimal, refl, arith, ltb→lt, leb→le, rules}
 use lib.Signed.{mag}
 use Rattle.std.proofs.lemmas.Fmt.{digits_decimal, digits_value-decimal, decimal_nonempty}
 use Rattle.std.proofs.lemmas.Str.Parse.{IsNumeralModel, numerals_by_fold}
 use Rattle.std.proofs.lemmas.Bool.{and_parts, and_from, leb-true, ne_eqb}
 use Rattle.std.specs.Fmt.{signed_decimal}
 use Rattle.tokens.specs.Numbers.{is_digit, all_digits, is_empty, is_numeral, read_on, value, has_minus, after_minus, is_number, with_sign}
-use Rattle.tokens.specs.Tokens.{ends_word, all_plain, is_word}
+use Rattle.tokens.specs.Tokens.{ends_word, all_plain}
 use Rattle.grammar.specs.Reads.{no_break, Writes, WritesSigned}
 use Rattle.grammar.specs.Spellable.{Fits, FitsSigned, IsName}
 

@@ -1,5 +1,5 @@
 -- A plan whose tasks are placed on other lines keeps everything else.
-use Rattle.std.proofs.Common.{◌≡◌, ℕ, suc, ◌+◌, Bool, List, [], ◌∷◌, ◌++◌, length, refl, ap}
+use Rattle.std.proofs.Common.{◌≡◌, ℕ, suc, ◌+◌, List, [], ◌∷◌, ◌++◌, length, refl, ap}
 use Rattle.forms.specs.Meaning.{Task, Plan}
 use Rattle.grammar.specs.Reading.{names_of}
 use Rattle.grammar.specs.Reads.{AllKnown, NamesStand, FewSteps, Within}

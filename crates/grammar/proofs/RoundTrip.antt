@@ -1,13 +1,13 @@
 -- What is spelled is read back.
-use Rattle.std.proofs.Common.{◌≡◌, ℕ, ◌≤◌, Bool, true, false, cond, ltb, List, length, Ok, Err, Result, sym, refl, ap, ◌∙◌}
+use Rattle.std.proofs.Common.{◌≡◌, ℕ, ◌≤◌, Bool, true, false, cond, ltb, List, length, Ok, Err, refl, ap, ◌∙◌}
 use Rattle.std.proofs.lemmas.Bool.{ltb-false, cond-true}
 use Rattle.faults.specs.declared.fault.Reason.TheVariants.{TooLong}
 use Rattle.faults.specs.Faults.{at}
 use Rattle.lines.specs.Lines.{text_of}
 use Rattle.forms.specs.Meaning.{Plan}
 use Rattle.grammar.specs.Reading.{most_bytes, told, reading}
-use Rattle.grammar.specs.Reads.{Within, Exact, Respelled, Settled, Grows}
-use Rattle.grammar.specs.Spellable.{Spellable, ReadBack}
+use Rattle.grammar.specs.Reads.{Respelled, Settled, Grows}
+use Rattle.grammar.specs.Spellable.{ReadBack}
 use Rattle.grammar.specs.Spelled.{spelled, placed}
 use Rattle.grammar.proofs.Canonical.{spelled_reads}
 use Rattle.grammar.proofs.Exact.{exact}

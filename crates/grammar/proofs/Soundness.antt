@@ -1,10 +1,10 @@
 -- What a script says can be spelled: its numbers fit what they fill, and its names are words without LF.
-use Rattle.std.proofs.Common.{◌≡◌, ℕ, ◌+◌, ◌^◌, ◌<◌, List, [], ◌∷◌, ◌++◌, length, Some, None, unwrap_or, subst, arith}
+use Rattle.std.proofs.Common.{ℕ, ◌+◌, List, [], ◌∷◌, length, unwrap_or, subst, arith}
 use Rattle.tokens.specs.Tokens.{Mark, closing}
 use Rattle.forms.specs.declared.form.Setting.{Setting}
 use Rattle.forms.specs.declared.form.Setting.TheVariants.{Cycle, Start, Timeout, Catch}
 use Rattle.forms.specs.Meaning.{Act, sleep, spawn, wake, abort, stop, await, done, fault, Task, Plan}
-use Rattle.grammar.specs.Reads.{SaysAct, SaysActs, SaysSetting, SaysTask, SettingLines, TaskLines, Line, cycle_in, start_in, timeout_in, Reads}
+use Rattle.grammar.specs.Reads.{SaysAct, SaysActs, SaysSetting, SaysTask, SettingLines, TaskLines, cycle_in, start_in, timeout_in, Reads}
 use Rattle.grammar.specs.Spellable.{Fits, SpellableAct, SpellableActs, SpellableTimeout, SpellableTask, SpellableTasks, Spellable}
 use Rattle.grammar.proofs.Unbroken.{AllSound, all_sound_parts, named_sound, all_sound_line}
 use Rattle.grammar.proofs.Canonical.{FitSetting, FitSettings}

@@ -1,5 +1,5 @@
 -- What an answer says of its refusal.
-use Rattle.std.proofs.Common.{◌≡◌, ℕ, true, eqb, Some, None, Ok, Err, Option, Result, sym, refl, ap, ◌∙◌, arith}
+use Rattle.std.proofs.Common.{◌≡◌, ℕ, true, Some, None, Ok, Err, Option, refl, ap, arith}
 use Rattle.std.proofs.lemmas.Bool.{eqb-true, false≢true}
 use Rattle.keyed.specs.Choices.{answered, holds}
 

@@ -1,5 +1,5 @@
 -- The laws of keyed lists, from the lemmas on places and orders.
-use Rattle.std.proofs.Common.{◌≡◌, ℕ, List, get_or, set, Some, sym, refl, ap, ◌∙◌}
+use Rattle.std.proofs.Common.{◌≡◌, ℕ, List, get_or, set, Some, sym, ap, ◌∙◌}
 use Rattle.keyed.specs.Laws.{Stands, Laws}
 use Rattle.keyed.proofs.Orders.{ordered_change, ordered_without, ordered_push}
 use Rattle.keyed.proofs.Places.{find_at, change_at, without_at}

@@ -1,7 +1,7 @@
 -- What an ascending order says of a list, and what keeps it.
-use Rattle.std.proofs.Common.{◌≡◌, ℕ, zero, suc, ◌+◌, ◌<◌, ◌≤◌, Bool, true, false, cond, ◌&&◌, eqb, leb, List, [], ◌∷◌, ◌++◌, length, get_or, set, Some, None, Option, sym, refl, ap, ◌∙◌, arith}
-use Rattle.std.proofs.lemmas.Bool.{ne_eqb, eq-eqb, eqb-true, leb-true, le-leb, and_parts, and_from, or_parts, cond_both}
-use Rattle.keyed.specs.Keyed.{ordered, find, known, change, without}
+use Rattle.std.proofs.Common.{◌≡◌, ℕ, zero, suc, ◌+◌, ◌<◌, ◌≤◌, true, cond, eqb, leb, List, [], ◌∷◌, ◌++◌, length, get_or, set, Some, None, Option, sym, refl, ap, ◌∙◌, arith}
+use Rattle.std.proofs.lemmas.Bool.{ne_eqb, eqb-true, leb-true, le-leb, and_parts, and_from, cond_both}
+use Rattle.keyed.specs.Keyed.{ordered, find, change, without}
 
 module _ {X : Type 0} (key : X → ℕ) where
   -- what an order says of its first element

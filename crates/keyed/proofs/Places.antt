@@ -1,5 +1,5 @@
 -- The place of a key: the loop that looks for it, and what is read, written or removed there.
-use Rattle.std.proofs.Common.{◌≡◌, ℕ, zero, suc, ◌+◌, ◌<◌, ◌≤◌, Bool, true, false, cond, ◌||◌, eqb, List, [], ◌∷◌, length, get_or, drop, set, is_some, Some, None, Option, sym, refl, ap, ◌∙◌, arith, MatchOption}
+use Rattle.std.proofs.Common.{◌≡◌, ℕ, zero, suc, ◌+◌, ◌<◌, ◌≤◌, true, false, ◌||◌, eqb, List, [], ◌∷◌, length, get_or, drop, set, is_some, Some, None, Option, sym, refl, ap, ◌∙◌, arith, MatchOption}
 use Rattle.std.proofs.lemmas.List.{get_or_default, at_drop_more, at_drop_all}
 use Rattle.std.proofs.lemmas.Bool.{ne_eqb, eq-eqb, or_right, or_parts}
 use Rattle.std.specs.List.{remove}

@@ -3,7 +3,7 @@
 -- ordered: in ascending order, within bounds      known: some record has the key
 -- find: the record with the key                   change: the record with the key is changed
 -- without: the record with the key is gone
-use Rattle.std.specs.Prelude.{ℕ, suc, Bool, true, false, cond, ◌&&◌, ◌||◌, List, [], ◌∷◌, Some, None, Option, ◌==◌, nat_le}
+use Rattle.std.specs.Prelude.{ℕ, suc, Bool, false, cond, ◌&&◌, ◌||◌, List, [], ◌∷◌, Some, None, Option, ◌==◌, nat_le}
 
 module _ {X : Type 0} (key : X → ℕ) where
   -- the keys rise from low on, each above the one before, and stay below high; where there is none, low is at most high

@@ -1,7 +1,7 @@
 -- Where the first line of some bytes ends.
 use Rattle.std.proofs.Common.{◌≡◌, ℕ, suc, ◌+◌, ◌<◌, ◌≤◌, Bool, true, false, cond, not, eqb, List, [], ◌∷◌, length, take, drop, sym, refl, ap, ◌∙◌, subst, add-one, one-add, arith, drop-drop}
 use Rattle.std.specs.List.{prefix_len}
-use Rattle.lines.specs.Lines.{Text, begun_by, in_line, led, text_of, unended, with_line}
+use Rattle.lines.specs.Lines.{Text, in_line, led, text_of, unended, with_line}
 
 -- how long the first line is, by the test of its first byte
 abbrev length_by : Bool → List ℕ → ℕ

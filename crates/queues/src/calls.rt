@@ -49,8 +49,8 @@ impl Queues {
     // Drains all that wait, in the arranger's order, once all that was drained before is dealt.
     pub fn drain<W: Arranger<u64>>(&mut self, arranger: &mut W)
         requires dealt { (view self.old).drained ≡ [] }
-        ensures state { view self.new ≡ all_drained (asked rule (value arranger.old) (view self.old).waiting).order }
-        ensures next { value arranger.new ≡ (asked rule (value arranger.old) (view self.old).waiting).value }
+        ensures state { view self.new ≡ all_drained (asked W.rule (W.value arranger.old) (view self.old).waiting).order }
+        ensures next { W.value arranger.new ≡ (asked W.rule (W.value arranger.old) (view self.old).waiting).value }
     {
         self.drained.clear();
         self.dealt = 0;

@@ -1,5 +1,5 @@
 -- How lines are taken one after another, and what comes of the whole.
-use Rattle.std.proofs.Common.{◌≡◌, ℕ, suc, ◌+◌, ◌<◌, ◌≤◌, Bool, true, false, cond, eqb, ltb, List, [], ◌∷◌, length, Ok, Err, Result, sym, refl, ap, ◌∙◌, arith}
+use Rattle.std.proofs.Common.{◌≡◌, ℕ, suc, ◌+◌, ◌<◌, ◌≤◌, Bool, cond, eqb, ltb, List, [], ◌∷◌, length, Ok, Err, Result, sym, refl, ap, ◌∙◌, arith}
 use Rattle.std.proofs.lemmas.Bool.{lt-ltb, le-ltb, cond-true, cond-false, ne_eqb}
 use Rattle.tokens.specs.Numbers.{is_empty}
 use Rattle.faults.specs.declared.fault.Fault.{Fault}
@@ -8,8 +8,7 @@ use Rattle.faults.specs.Faults.{at}
 use Rattle.faults.specs.declared.read_fault.ReadFault.{ReadFault}
 use Rattle.faults.specs.declared.read_fault.ReadFault.TheVariants as read
 use Rattle.forms.specs.Forms.{form_of}
-use Rattle.forms.specs.Meaning.{Plan}
-use Rattle.lines.specs.Lines.{Text, text_of, with_line, unended}
+use Rattle.lines.specs.Lines.{text_of, with_line, unended}
 use Rattle.grammar.specs.Reading.{Draft, blank, drafted, and_then, draft_of, planned, told, reading, most_bytes}
 use Rattle.script.specs.declared.draft.DraftFault.{DraftFault}
 use Rattle.script.specs.declared.draft.DraftFault.TheVariants.{Refused, Memory}

@@ -7,6 +7,7 @@ use script::read::read;
 use script_print::print::print;
 use std::alloc::AllocError;
 use std::io::{Read, Write};
+use std::process::ExitCode;
 use std::{env, fs, io};
 
 // Why nothing was printed.
@@ -47,7 +48,7 @@ fn file_argument(rt: &HostRuntime) -> Result<Option<String>, Failure> {
     let Some(file) = file else {
         return Ok(None);
     };
-    if file.as_bytes() == b"-" {
+    if file.as_bytes() == b"-".as_slice() {
         return Ok(None);
     }
     if file.as_str().starts_with('-') {
@@ -98,10 +99,10 @@ fn tell(rt: &HostRuntime, failure: &Failure) -> io::Result<()> {
     }
 }
 
-fn main(rt: HostRuntime) -> Result<(), Failure> {
+fn main(rt: HostRuntime) -> ExitCode {
     let Err(failure) = format(&rt) else {
-        return Ok(());
+        return ExitCode::SUCCESS;
     };
     let _ = tell(&rt, &failure);
-    Err(failure)
+    ExitCode::FAILURE
 }

@@ -26,10 +26,18 @@ pub record Whole (F : Family) : Type 0 where
 
 -- the same, as the ghost fields of a tree state it
 abbrev pub Facts : Family → Type 0
-Facts F = Rooted F × (Shielded F × (Linked F × (Honest F × (Past F × (Kept F × (Single F × Unit {0}))))))
+Facts F = record { rooted : Rooted F; shielded : Shielded F; linked : Linked F; honest : Honest F; past : Past F; kept : Kept F; single : Single F }
 
 pub facts : (F : Family) → Whole F → Facts F
-facts F w = (w.solid.frame.rooted, (w.solid.shielded, (w.solid.linked, (w.solid.frame.honest, (w.solid.frame.past, (w.kept, (w.single, tt)))))))
+facts F w = record {
+  rooted = w.solid.frame.rooted;
+  shielded = w.solid.shielded;
+  linked = w.solid.linked;
+  honest = w.solid.frame.honest;
+  past = w.solid.frame.past;
+  kept = w.kept;
+  single = w.single;
+}
 
 -- the facts of what is equal to a whole tree
 pub facts_of : (G F : Family) → G ≡ F → Whole F → Facts G

@@ -4,7 +4,7 @@ use Rattle.std.specs.Option.{ok_or}
 use Rattle.std.proofs.lemmas.List.{at_drop_more, at_drop_all}
 use Rattle.std.proofs.lemmas.Bool.{lt-leb, le-leb}
 use Rattle.tokens.specs.declared.token.LineFault.TheVariants.{NoForm}
-use Rattle.tokens.specs.Numbers.{is_digit, all_digits, is_numeral, read_on, numeral_up_to}
+use Rattle.tokens.specs.Numbers.{is_digit, all_digits, read_on, numeral_up_to}
 
 -- a number only grows by the digits that follow
 pub grows : (n : ℕ) (bs : List ℕ) → n ≤ read_on n bs

@@ -1,6 +1,6 @@
 -- The tokens of a line are those that spell it, and no others. Assumes nothing.
 use Rattle.std.proofs.Common.{◌≡◌, ℕ, Bool, true, false, cond, not, ◌&&◌, eqb, List, [], ◌∷◌, ◌++◌, is_some, Some, None, Option, sym, refl, ap, ◌∙◌}
-use Rattle.std.proofs.lemmas.Bool.{eqb-true, true≢false, false≢true, and_parts, not-true}
+use Rattle.std.proofs.lemmas.Bool.{eqb-true, false≢true, and_parts, not-true}
 use Rattle.tokens.specs.Numbers.{is_number}
 use Rattle.tokens.specs.Tokens.{Part, left, right, space, run, Mark, opening, closing, word, number, stray, Place, begun, ended, parted, separator, ends_word, joined, set_before, parts, named, marks, tokens_of, due, spell, all_plain, is_word, is_token, all_tokens, Spelled}
 

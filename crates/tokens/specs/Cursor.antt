@@ -1,5 +1,5 @@
 -- What a piece, a token and a cursor of the code tell of a line. Assumes nothing.
-use Rattle.std.specs.Prelude.{◌≡◌, ℕ, Bool, true, false, cond, List, [], ◌∷◌, Some, None, Ok, Err, Option, Result}
+use Rattle.std.specs.Prelude.{◌≡◌, ℕ, Bool, cond, List, [], ◌∷◌, Some, None, Ok, Err, Option, Result}
 use Rattle.std.specs.Borrow.{Bor}
 use Rattle.tokens.specs.declared.piece.Piece.{Piece}
 use Rattle.tokens.specs.declared.piece.Piece.TheVariants.{Left, Right, Space, Run}

@@ -1,4 +1,4 @@
-use Rattle.std.proofs.Common.{◌≡◌, true, false, get_or, ap, arith, rules}
+use Rattle.std.proofs.Common.{◌≡◌, true, false, get_or, arith, rules}
 use Rattle.std.proofs.lemmas.List.Sums.{prefix_len-drop_yes, prefix_len-drop_no, prefix_len-drop_all}
 use Rattle.lines.specs.Lines.{in_line}
 use Rattle.lines.proofs.line_length.Goals as goal

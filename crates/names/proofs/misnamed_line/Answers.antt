@@ -1,4 +1,4 @@
-use Rattle.std.proofs.Common.{true, false, [], map, take, sym, ap, ◌∙◌}
+use Rattle.std.proofs.Common.{true, false, map, take, sym, ap, ◌∙◌}
 use Rattle.std.proofs.lemmas.List.{at_drop_all}
 use Rattle.forms.specs.Views.{task_of}
 use Rattle.grammar.specs.Reading.{is_named, misnamed}

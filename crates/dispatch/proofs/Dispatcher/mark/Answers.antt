@@ -7,8 +7,8 @@ use Rattle.dispatch.proofs.Unmarked.{unmarked_mark}
 use Rattle.dispatch.proofs.Marks.{marking_found}
 use Rattle.dispatch.proofs.Dispatcher.mark.Goals as goal
 
-pub mark-task-requires : goal.mark-task-requires
-mark-task-requires c =
+pub mark_task-requires : goal.mark_task-requires
+mark_task-requires c =
     let new = not-true _ c.if-not-task.true in
     let spent = unmarked_mark c.args.id (tasks.view c.args.self.now.tasks) _ (task_view c.in-Some.task) c.in-Some.ensures.task new refl in
     record {
@@ -19,7 +19,7 @@ mark-task-requires c =
 
 pub returns-then-not-task : goal.returns-then-not-task
 returns-then-not-task c =
-    let told = c.mark-task.ensures in
+    let told = c.mark_task.ensures in
     let spent = unmarked_mark c.args.id (tasks.view c.args.self.now.tasks) _ (task_view c.in-Some.task) c.in-Some.ensures.task (not-true _ c.if-not-task.true) told.registry in
     record {
       state = λ m. marking_found c.args.id (task_view c.in-Some.task) _ _ c.in-Some.ensures.task (told.state m);

@@ -9,7 +9,7 @@ pub returns-then-task : goal.returns-then-task
 returns-then-task c =
     let same = ap (λ (q : Queues). length q.waiting) c.write.ensures.queues in
     record {
-      state = λ m. mark_woken _ _ _ c.args.counts.now c.saturating-sub-counts.result _ m (task_view c.args.task) c.requires.new c.mark.ensures c.saturating-sub-counts.ensures _ _ c.if-task.true (c.write.ensures.state _ m) (c.queue.ensures.state _ m);
+      state = λ m. mark_woken _ _ _ c.args.counts.now c.saturating_sub-counts.result _ m (task_view c.args.task) c.requires.new c.mark.ensures c.saturating_sub-counts.ensures _ _ c.if-task.true (c.write.ensures.state _ m) (c.queue.ensures.state _ m);
       left = omega (arith, c.write.ensures.left, c.queue.ensures.left);
       waiting = omega (arith, same, c.queue.ensures.waiting);
       registry = c.queue.ensures.registry ∙ c.write.ensures.registry ∙ c.mark.ensures;
@@ -19,7 +19,7 @@ pub returns-else-task : goal.returns-else-task
 returns-else-task c =
     let same = ap (λ (q : Queues). length q.waiting) c.write.ensures.queues in
     record {
-      state = λ m. mark_alone _ _ _ c.args.counts.now c.saturating-sub-counts.result _ m (task_view c.args.task) c.requires.new c.mark.ensures c.saturating-sub-counts.ensures _ c.if-task.false (c.write.ensures.state _ m);
+      state = λ m. mark_alone _ _ _ c.args.counts.now c.saturating_sub-counts.result _ m (task_view c.args.task) c.requires.new c.mark.ensures c.saturating_sub-counts.ensures _ c.if-task.false (c.write.ensures.state _ m);
       left = omega (arith, c.write.ensures.left);
       waiting = omega (arith, same);
       registry = c.write.ensures.registry ∙ c.mark.ensures;

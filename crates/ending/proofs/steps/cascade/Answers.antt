@@ -13,6 +13,6 @@ returns-in-Some-node c =
     let tree = supervision.view c.cascade.new.self in
     record {
       state = cascades c.args.task c.in-Some-node.node (task_view c.in-Some.ending) m _ tree c.marks.result.now c.in-Some.ensures.task c.in-Some-node.is c.cascade.ensures.state (c.marks.ensures ∙ c.cascade.ensures.marks)
-          (c.mark-all.ensures.state (with_tree tree m));
-      room = c.mark-all.ensures.entries;
+          (c.mark_all.ensures.state (with_tree tree m));
+      room = c.mark_all.ensures.entries;
     }

@@ -11,8 +11,8 @@ returns c =
     let m = view c.args.state.now in
     let stops = signal.view c.end.new.self in
     record {
-      state = goes c.args.task m _ stops c.woken.result.now c.end.ensures.state (c.woken.ensures.value ∙ c.end.ensures.woken) (c.queue-all.ensures.state m.counts (with_stop stops m));
-      room = omega (arith, c.queue-all.ensures.left, c.woken.ensures.few);
-      place = omega (arith, c.queue-all.ensures.waiting, c.woken.ensures.few);
-      registry = c.queue-all.ensures.registry;
+      state = goes c.args.task m _ stops c.woken.result.now c.end.ensures.state (c.woken.ensures.value ∙ c.end.ensures.woken) (c.queue_all.ensures.state m.counts (with_stop stops m));
+      room = omega (arith, c.queue_all.ensures.left, c.woken.ensures.few);
+      place = omega (arith, c.queue_all.ensures.waiting, c.woken.ensures.few);
+      registry = c.queue_all.ensures.registry;
     }

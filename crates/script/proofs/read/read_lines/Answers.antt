@@ -1,4 +1,4 @@
-use Rattle.std.proofs.Common.{◌≡◌, true, false, Err, sym, ◌∙◌, subst, arith}
+use Rattle.std.proofs.Common.{true, false, Err, sym, ◌∙◌, subst, arith}
 use Rattle.faults.specs.declared.read_fault.ReadFault.{ReadFault}
 use Rattle.lines.specs.Lines.{text_of}
 use Rattle.grammar.specs.Reading.{blank, draft_of}

@@ -1,4 +1,4 @@
-use Rattle.std.proofs.Common.{◌++◌, map, drop, vec_items, ◌∙◌}
+use Rattle.std.proofs.Common.{map, vec_items, ◌∙◌}
 use Rattle.std.proofs.lemmas.List.{at_drop_all}
 use Rattle.forms.specs.Views.{act_of}
 use Rattle.grammar.specs.Spelled.{spelled_acts}
@@ -7,10 +7,10 @@ use Rattle.script_print.proofs.print.put_steps.Goals as goal
 
 pub loop-step-preserved : goal.loop-step-preserved
 loop-step-preserved c =
-    printed_turn _ (vec_items c.loop-step.out) (vec_items c.put-step.new.out) _ _ _ c.loop-step.invariant
+    printed_turn _ (vec_items c.loop-step.out) (vec_items c.put_step.new.out) _ _ _ c.loop-step.invariant
     (spelled_acts_turn c.args.steps.now c.loop-step.step-index _ c.loop-step-test.true)
-    (spaced (vec_items c.loop-step.out) (vec_items c.extend-from-slice.new.self) (vec_items c.put-step.new.out) _
-    c.in-ok-extend-from-slice.ensures.items c.in-ok-put-step.ensures)
+    (spaced (vec_items c.loop-step.out) (vec_items c.extend_from_slice.new.self) (vec_items c.put_step.new.out) _
+    c.in_ok-extend_from_slice.ensures.items c.in_ok-put_step.ensures)
 
 pub returns : goal.returns
 returns c =

@@ -7,9 +7,9 @@ use Rattle.script_print.proofs.print.put_tasks.Goals as goal
 
 pub loop-task-preserved : goal.loop-task-preserved
 loop-task-preserved c =
-    printed_turn _ (vec_items c.loop-task.out) (vec_items c.put-task.new.out) _ _ _ c.loop-task.invariant
+    printed_turn _ (vec_items c.loop-task.out) (vec_items c.put_task.new.out) _ _ _ c.loop-task.invariant
     (spelled_tasks_turn c.args.tasks.now c.loop-task.task-index c.task-item.result c.loop-task-test.true c.task-item.is)
-    c.in-ok-put-task.ensures
+    c.in_ok-put_task.ensures
 
 pub returns : goal.returns
 returns c =

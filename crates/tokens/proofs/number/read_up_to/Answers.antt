@@ -1,4 +1,4 @@
-use Rattle.std.proofs.Common.{◌≡◌, ◌+◌, ◌-◌, ◌*◌, ◌<◌, get_or, sym, ◌∙◌, arith, rules}
+use Rattle.std.proofs.Common.{◌+◌, ◌-◌, ◌*◌, ◌<◌, get_or, ◌∙◌, arith, rules}
 use Rattle.tokens.proofs.Digits.{on_up_to_start, turn_no_digit, turn_past, turn_more, turn_end, turn_far, as_ok, as_fault}
 use Rattle.tokens.proofs.number.read_up_to.Goals as goal
 

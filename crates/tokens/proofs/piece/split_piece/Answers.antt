@@ -1,6 +1,6 @@
-use Rattle.std.proofs.Common.{◌≡◌, ℕ, ◌<◌, List, ◌∷◌, length, take, drop, sym, ap, ◌∙◌, arith, rules, true-eqb}
+use Rattle.std.proofs.Common.{ℕ, ◌<◌, List, ◌∷◌, length, take, drop, sym, ap, ◌∙◌, arith, rules, true-eqb}
 use Rattle.tokens.specs.Cursor.{part_of}
-use Rattle.tokens.specs.Tokens.{run, parts, word_length}
+use Rattle.tokens.specs.Tokens.{run, parts}
 use Rattle.tokens.proofs.Runs.{word_within, parts_none, parts_word, parts_separator}
 use Rattle.tokens.proofs.piece.split_piece.Goals as goal
 

@@ -1,4 +1,4 @@
-use Rattle.std.proofs.Common.{◌≡◌, sym, ◌∙◌, arith}
+use Rattle.std.proofs.Common.{sym, arith}
 use Rattle.tokens.proofs.Runs.{word_stops, word_more, word_end}
 use Rattle.tokens.proofs.piece.word_length.Goals as goal
 

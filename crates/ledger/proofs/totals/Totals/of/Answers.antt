@@ -1,7 +1,7 @@
 -- One entry more is counted; at the end all are.
-use Rattle.std.proofs.Common.{◌≡◌, ◌+◌, ◌≤◌, get_or, sym, ap, ◌∙◌, subst, arith, take_all}
+use Rattle.std.proofs.Common.{◌+◌, ◌≤◌, get_or, sym, ap, ◌∙◌, subst, arith, take_all}
 use Rattle.entry.specs.declared.Entry.TheVariants as entry
-use Rattle.ledger.specs.Counting.{all, counted, counts_of}
+use Rattle.ledger.specs.Counting.{all, counted}
 use Rattle.ledger.specs.Totals.{summed, totals_of}
 use Rattle.ledger.proofs.Countings.{counts_of_more, all_counted}
 use Rattle.ledger.proofs.totals.Totals.of.Goals as goal

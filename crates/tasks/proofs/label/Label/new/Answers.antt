@@ -4,4 +4,4 @@ use Rattle.tasks.proofs.Labels.{front_read}
 use Rattle.tasks.proofs.label.Label.new.Goals as goal
 
 pub returns : goal.returns
-returns c = (le-leb _ _ c.if-len-gt-MOST-LABEL.false, front_read c.args.text.now _ _ c.copy-from-slice.ensures.after)
+returns c = (le-leb _ _ c.if-len-gt-MOST_LABEL.false, front_read c.args.text.now _ _ c.copy_from_slice.ensures.after)
