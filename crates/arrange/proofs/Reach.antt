@@ -1,5 +1,5 @@
 -- Every order can come: the last id is drawn from where it stands, and the ids before it are reached likewise. Assumes nothing.
-use Rattle.std.proofs.Common.{◌≡◌, ℕ, zero, suc, ◌+◌, ◌-◌, ◌%◌, ◌<◌, ◌≤◌, Bool, true, false, cond, eqb, List, [], ◌∷◌, ◌++◌, length, get_or, take, set, count_by, sym, refl, ap, ◌∙◌, ⊎_elim, mod-lt, mod-eq_of_lt, arith}
+use Rattle.std.proofs.Common.{◌≡◌, ℕ, zero, suc, ◌+◌, ◌-◌, ◌%◌, ◌<◌, Bool, true, cond, eqb, List, [], ◌∷◌, ◌++◌, length, get_or, take, set, count_by, sym, refl, ap, ◌∙◌, ⊎_elim, mod-lt, mod-eq_of_lt, arith}
 use Rattle.std.specs.List.{swap, AllByRecursion as All}
 use Rattle.std.specs.List.Sorted.{IsPermutation}
 use Rattle.std.proofs.ByRecursion.{All-weaker}
@@ -7,10 +7,10 @@ use Rattle.std.proofs.lemmas.List.{get_or_append_left, get_or_default, get_or-se
 use Rattle.std.proofs.lemmas.List.Sorted.{length_permutation}
 use Rattle.std.proofs.lemmas.List.Sums.{sum_by-cons, sum_by_push}
 use Rattle.std.proofs.lemmas.Bool.{cases_Bool, cases_eq, cond-false, cond-true, eq-eqb, eqb-true}
-use Rattle.arrange.specs.Deck.{deck, swaps, shuffled}
+use Rattle.arrange.specs.Deck.{deck, swaps}
 use Rattle.arrange.specs.Draws.{Drawn}
 use Rattle.arrange.specs.Order.{EquallyOften}
-use Rattle.arrange.specs.Reach.{Reached, EveryOrder}
+use Rattle.arrange.specs.Reach.{EveryOrder}
 use Rattle.arrange.specs.Tape.{tape_rule}
 use Rattle.arrange.proofs.Often.{often_shuffled}
 

@@ -1,5 +1,5 @@
 -- A loop that changes each node of the list.
-use Rattle.std.proofs.Common.{◌≡◌, ℕ, ◌≤◌, true, false, cond, List, [], ◌∷◌, ◌++◌, map, length, take, drop, None, sym, refl, ap, ◌∙◌}
+use Rattle.std.proofs.Common.{◌≡◌, ℕ, ◌≤◌, true, false, cond, List, ◌++◌, map, length, take, drop, None, refl, ◌∙◌}
 use Rattle.std.proofs.lemmas.List.{take_all, drop_all, append-nil}
 use Rattle.keyed.specs.Choices.{holds}
 use Rattle.nodes.specs.declared.Node.{Node}

@@ -1,5 +1,5 @@
 -- One node: what it is changed to, and what it is asked.
-use Rattle.std.specs.Prelude.{ℕ, ◌+◌, ◌-◌, ◌^◌, min, Bool, true, false, cond, not, ◌||◌, List, is_some, Some, None, Option}
+use Rattle.std.specs.Prelude.{ℕ, ◌+◌, ◌-◌, ◌^◌, min, Bool, cond, not, ◌||◌, List, is_some, Some, None, Option}
 use Rattle.keyed.specs.Choices.{holds}
 use Rattle.keyed.specs.Members.{any}
 use Rattle.nodes.specs.declared.Node.{Node}

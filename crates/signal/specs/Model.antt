@@ -2,7 +2,6 @@
 use Rattle.std.specs.Prelude.{ℕ, Bool, cond, not, ◌&&◌, List, [], ℤ, is_some, Some, None, Ok, Err, vec_items, Option, Result}
 use Rattle.keyed.specs.Choices.{whether}
 use Rattle.oneshot.specs.Cell.{sent}
-use Rattle.roster.specs.declared.row.Step.{Step}
 use Rattle.roster.specs.declared.row.Step.TheVariants.{Await, LetGo, AskCompletion}
 use Rattle.roster.specs.declared.row.Whom.TheVariants.{Waiting, Asked}
 use Rattle.roster.specs.Model.{Roll, nobody, turned, departed, holder, called}

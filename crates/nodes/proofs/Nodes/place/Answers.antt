@@ -1,4 +1,4 @@
-use Rattle.std.proofs.Common.{List, length, ap, arith}
+use Rattle.std.proofs.Common.{length, ap, arith}
 use Rattle.keyed.proofs.Places.{hit, miss, missed}
 use Rattle.nodes.specs.Node.{serial_of}
 use Rattle.nodes.proofs.Nodes.place.Goals as goal
