@@ -1,10 +1,10 @@
 -- More rehearsals worked out, each by what happens in it.
-use Rattle.std.specs.Prelude.{ℕ, true, false, List, [], ◌∷◌, pos, Some, None, codes}
+use Rattle.std.specs.Prelude.{true, false, [], ◌∷◌, pos, Some, None, codes}
 use Rattle.entry.specs.declared.Entry.TheVariants as entry
 use Rattle.reasons.specs.declared.cause.Cause.TheVariants as cause
 use Rattle.reasons.specs.declared.ending.Ending.TheVariants as ending
 use Rattle.reasons.specs.declared.end.End.TheVariants as end
-use Rattle.forms.specs.Meaning.{Act, sleep, spawn, wake, abort, stop, await, done, fault, Task, Plan}
+use Rattle.forms.specs.Meaning.{sleep, spawn, wake, abort, stop, await, done, fault, Plan}
 use Rattle.crews.specs.Rehearsals.{Told, Tells}
 
 -- a task that has pended is aborted: it is marked and woken, and ends at its next deal without its body being called

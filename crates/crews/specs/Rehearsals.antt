@@ -1,5 +1,5 @@
 -- Rehearsals worked out: scripts, and all that a run of each comes to.
-use Rattle.std.specs.Prelude.{◌≡◌, ℕ, zero, suc, Bool, true, false, List, [], ◌∷◌, ◌++◌, ℤ, pos, Some, None, codes, Option}
+use Rattle.std.specs.Prelude.{◌≡◌, ℕ, zero, suc, true, false, List, [], ◌∷◌, ◌++◌, ℤ, pos, Some, None, codes, Option}
 use Rattle.arrange.specs.Order.{Order, kept}
 use Rattle.entry.specs.declared.Entry.{Entry}
 use Rattle.entry.specs.declared.Entry.TheVariants as entry
@@ -8,9 +8,8 @@ use Rattle.reasons.specs.declared.cause.Cause.TheVariants as cause
 use Rattle.reasons.specs.declared.ending.Ending.TheVariants as ending
 use Rattle.reasons.specs.declared.end.End.{End}
 use Rattle.reasons.specs.declared.end.End.TheVariants as end
-use Rattle.forms.specs.Meaning.{Act, sleep, spawn, wake, await, done, Task, Plan}
+use Rattle.forms.specs.Meaning.{sleep, spawn, wake, await, done, Plan}
 use Rattle.deterministic.specs.declared.counts.Counts.{Counts}
-use Rattle.deterministic.specs.Model.{Model}
 use Rattle.deterministic.specs.Calls.{Call, child, close, apply, links_answer}
 use Rattle.deterministic.specs.Start.{Settings, Finished, started, run, finished}
 use Rattle.crews.specs.Script.{Troupe, Refused, troupe, script_rule}

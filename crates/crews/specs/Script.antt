@@ -3,11 +3,11 @@
 -- actor    a task of the run: its steps that are left, how far it is with the first of them, and its own context
 -- troupe   the crew's value: the script's tasks, the actors, which task a name means, and the first refused call
 -- course   what a step comes to: the next step, a wait, or the end of the body
-use Rattle.std.specs.Prelude.{ℕ, ◌+◌, ◌-◌, ◌^◌, Bool, true, false, cond, eqb, List, [], ◌∷◌, ◌++◌, ℤ, pos, Some, None, codes, Option}
+use Rattle.std.specs.Prelude.{ℕ, ◌+◌, ◌-◌, ◌^◌, List, [], ◌∷◌, ◌++◌, ℤ, pos, Some, None, codes, Option}
 use Rattle.std.specs.Str.{bytes_eq}
 use Rattle.keyed.specs.Keyed.{find, change}
 use Rattle.keyed.specs.Members.{first}
-use Rattle.keyed.specs.Choices.{whether, given}
+use Rattle.keyed.specs.Choices.{given}
 use Rattle.oneshot.specs.Cell.{sent}
 use Rattle.signal.specs.declared.Poll.{Poll}
 use Rattle.signal.specs.declared.Poll.TheVariants.{Ready, Pending}

@@ -1,5 +1,5 @@
 -- What a crew gives: the meaning of a body is what it does at each call of it.
-use Rattle.std.specs.Prelude.{ℕ, List}
+use Rattle.std.specs.Prelude.{List}
 use Rattle.deterministic.specs.declared.outcome.Outcome.{Outcome}
 use Rattle.deterministic.specs.Calls.{Call}
 

@@ -1,12 +1,12 @@
 -- The steps of dying.
-use Rattle.std.proofs.Common.{◌≡◌, ℕ, zero, suc, ◌+◌, ◌<◌, Bool, true, false, cond, List, [], ◌∷◌, length, Some, None, Option, sym, refl, ap, ◌∙◌, arith}
-use Rattle.keyed.specs.Keyed.{ordered, find, without}
+use Rattle.std.proofs.Common.{◌≡◌, ℕ, zero, suc, true, List, length, Some, None, Option, sym, refl, ap, ◌∙◌}
+use Rattle.keyed.specs.Keyed.{ordered, without}
 use Rattle.keyed.specs.Choices.{given}
 use Rattle.keyed.proofs.Finds.{in_find, length_change, length_without_found}
 use Rattle.keyed.proofs.Searches.{first_in}
 use Rattle.nodes.specs.declared.Node.{Node}
 use Rattle.nodes.specs.Node.{serial_of, bereaved, unkept}
-use Rattle.lineage.specs.Family.{Family, family, node_at}
+use Rattle.lineage.specs.Family.{Family, node_at}
 use Rattle.lineage.specs.Deaths.{mourned, buried, doomed, one_dies, repeated, settled}
 
 -- what is doomed lives

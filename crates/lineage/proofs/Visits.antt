@@ -1,5 +1,5 @@
 -- One step of the cascade: what it does, and what it leaves to do.
-use Rattle.std.proofs.Common.{◌≡◌, ℕ, zero, suc, ◌+◌, ◌<◌, ◌≤◌, Bool, true, false, cond, eqb, List, [], ◌∷◌, ◌++◌, length, Some, None, Option, sym, refl, ap, ◌∙◌, inl, inr, arith}
+use Rattle.std.proofs.Common.{◌≡◌, ℕ, suc, ◌+◌, ◌≤◌, Bool, true, false, cond, eqb, List, [], ◌∷◌, ◌++◌, length, Some, None, Option, refl, ap, ◌∙◌, inl, inr, arith}
 use Rattle.std.proofs.lemmas.List.{length-append}
 use Rattle.std.proofs.lemmas.Bool.{cond_both, cases_Bool}
 use Rattle.std.specs.Option.{option_to_list}
@@ -8,7 +8,7 @@ use Rattle.keyed.proofs.Finds.{some_not_none}
 use Rattle.nodes.specs.declared.Node.{Node}
 use Rattle.nodes.specs.Node.{serial_of}
 use Rattle.links.proofs.Gathering.{children_count}
-use Rattle.lineage.specs.Family.{Family, family, node_at}
+use Rattle.lineage.specs.Family.{Family, node_at}
 use Rattle.lineage.specs.Cascade.{Step, condemned, passed, struck, step_at, step, unaborted}
 
 module _ (s : ℕ) (F : Family) where

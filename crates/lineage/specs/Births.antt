@@ -1,8 +1,7 @@
 -- How a node is born.
-use Rattle.std.specs.Prelude.{ℕ, ◌+◌, Bool, true, false, cond, List, [], ◌∷◌, ◌++◌, length, Some, None, filter, Option, nat_lt}
+use Rattle.std.specs.Prelude.{ℕ, ◌+◌, Bool, true, false, cond, [], ◌∷◌, ◌++◌, length, Some, None, filter, Option, nat_lt}
 use Rattle.keyed.specs.Keyed.{change}
 use Rattle.keyed.specs.Choices.{given}
-use Rattle.nodes.specs.declared.Node.{Node}
 use Rattle.nodes.specs.Node.{serial_of, fresh, with_stale}
 use Rattle.links.specs.Link.{link, survives}
 use Rattle.lineage.specs.Family.{Family, family, node_at}

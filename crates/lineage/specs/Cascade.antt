@@ -1,5 +1,5 @@
 -- The cascade: a node and all below it are aborted, and the tasks seated there are given.
-use Rattle.std.specs.Prelude.{ℕ, zero, suc, ◌+◌, Bool, true, false, cond, List, [], ◌∷◌, ◌++◌, reverse, length, Some, None, filter, Option}
+use Rattle.std.specs.Prelude.{ℕ, zero, suc, ◌+◌, true, cond, List, [], ◌∷◌, ◌++◌, reverse, length, Some, None, filter, Option}
 use Rattle.std.specs.Option.{option_to_list}
 use Rattle.keyed.specs.Keyed.{change}
 use Rattle.nodes.specs.declared.Node.{Node}

@@ -1,5 +1,5 @@
 -- The model of a supervision tree: its living nodes, its links and the serial that comes next.
-use Rattle.std.specs.Prelude.{ℕ, Bool, false, List, map, length, Option, nat_lt}
+use Rattle.std.specs.Prelude.{ℕ, Bool, false, List, length, Option, nat_lt}
 use Rattle.keyed.specs.Keyed.{find, change}
 use Rattle.keyed.specs.Choices.{given, holds}
 use Rattle.nodes.specs.declared.Node.{Node}

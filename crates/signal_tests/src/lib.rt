@@ -55,7 +55,7 @@ mod tests {
         stopper.stopped(2);
         assert!(rt; waits(&mut stopper, 2));
         stopper.stop(-4);
-        assert!(rt; stopper.woken() == &[2]);
+        assert!(rt; stopper.woken() == [2].as_slice());
         stopper.stop(9);
         assert!(rt; stopper.woken().is_empty());
         assert!(rt; learns(&mut stopper, 2, -4) && learns(&mut stopper, 2, -4));
@@ -70,7 +70,7 @@ mod tests {
         stopper.stopped(1);
         assert!(rt; waits(&mut stopper, 3) && waits(&mut stopper, 1));
         stopper.stop(0);
-        assert!(rt; stopper.woken() == &[1, 3]);
+        assert!(rt; stopper.woken() == [1, 3].as_slice());
         Ok(())
     }
 
@@ -82,7 +82,7 @@ mod tests {
         stopper.stopped(2);
         assert!(rt; asks(&mut stopper, 3) && asks(&mut stopper, 1));
         stopper.let_go(1);
-        assert!(rt; stopper.woken() == &[1, 3] && is_complete(&mut stopper, 2));
+        assert!(rt; stopper.woken() == [1, 3].as_slice() && is_complete(&mut stopper, 2));
         stopper.let_go(1);
         assert!(rt; stopper.woken().is_empty() && is_complete(&mut stopper, 2));
         Ok(())
@@ -95,7 +95,7 @@ mod tests {
         stopper.stop(0);
         assert!(rt; asks(&mut stopper, 1) && asks(&mut stopper, 2));
         stopper.end(1);
-        assert!(rt; stopper.woken() == &[2] && is_complete(&mut stopper, 3));
+        assert!(rt; stopper.woken() == [2].as_slice() && is_complete(&mut stopper, 3));
         Ok(())
     }
 }

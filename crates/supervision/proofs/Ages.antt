@@ -1,6 +1,6 @@
 -- Serials are never reused: what is dead stays dead, whatever is done to a tree, and the next serial
 -- rises with births alone.
-use Rattle.std.proofs.Common.{◌≡◌, ℕ, zero, suc, ◌+◌, ◌<◌, ◌≤◌, Bool, true, false, cond, ltb, ◌⊎◌, List, [], ◌∷◌, ◌++◌, map, reverse, length, Some, None, filter, Option, sym, refl, ap, ◌∙◌, subst, inl, inr, arith}
+use Rattle.std.proofs.Common.{◌≡◌, ℕ, zero, suc, ◌+◌, ◌<◌, ◌≤◌, Bool, true, false, ltb, ◌⊎◌, List, [], ◌∷◌, ◌++◌, map, reverse, length, Some, None, Option, refl, ap, ◌∙◌, inl, inr, arith}
 use Rattle.std.proofs.lemmas.Bool.{cond_both, cases_Bool, ltb-true, ltb-false}
 use Rattle.std.specs.Option.{option_map}
 use Rattle.keyed.specs.Keyed.{find, change, without}
@@ -10,11 +10,10 @@ use Rattle.keyed.proofs.Maps.{find_map}
 use Rattle.nodes.specs.declared.Node.{Node}
 use Rattle.nodes.specs.Node.{serial_of, fresh, with_owner, with_task, with_stale, bereaved, released, vacated, taken}
 use Rattle.lineage.specs.Family.{Family, family, node_at, changed, aborted_at}
-use Rattle.lineage.specs.Births.{swept, tidied, grown, orphaned, joined, born}
+use Rattle.lineage.specs.Births.{swept, tidied, orphaned, born}
 use Rattle.lineage.specs.Deaths.{mourned, buried, doomed, one_dies, repeated, settled}
 use Rattle.lineage.specs.Cascade.{Step, condemned, passed, struck, step_at, step, walk, cascaded}
 use Rattle.lineage.proofs.Newborn.{tidied_tells}
-use Rattle.supervision.specs.declared.Refusal.{Refusal}
 use Rattle.supervision.specs.Laws.{Aged}
 use Rattle.supervision.specs.Calls.{child_refusal, with_child, after_child, context_refusal, closed, after_close, seated, closed_all, left}
 use Rattle.supervision.proofs.Solid.{tidied_by}

@@ -1,8 +1,8 @@
 -- Deaths keep the facts of a tree, and end only when nothing is left to die.
-use Rattle.std.proofs.Common.{◌≡◌, ℕ, zero, suc, Bool, true, false, cond, not, ◌||◌, List, [], ◌∷◌, length, is_some, Some, None, filter, Option, sym, refl, ap, ◌∙◌, subst, arith}
+use Rattle.std.proofs.Common.{◌≡◌, ℕ, zero, suc, false, not, ◌||◌, List, length, is_some, Some, None, filter, Option, sym, refl, ap, ◌∙◌, arith}
 use Rattle.std.proofs.lemmas.List.{nil_from_length}
 use Rattle.std.proofs.lemmas.Bool.{ne_eqb, or_parts, not-true, both_ways}
-use Rattle.keyed.specs.Keyed.{ordered, find, without}
+use Rattle.keyed.specs.Keyed.{without}
 use Rattle.keyed.specs.Choices.{given}
 use Rattle.keyed.specs.Members.{any, first}
 use Rattle.keyed.proofs.Orders.{ordered_without}
@@ -10,12 +10,11 @@ use Rattle.keyed.proofs.Finds.{find_in, find_without, find_without_other}
 use Rattle.keyed.proofs.Searches.{first_in, first_none_any, not_any}
 use Rattle.nodes.specs.declared.Node.{Node}
 use Rattle.nodes.specs.Node.{serial_of, bereaved, child_of, kept, unkept}
-use Rattle.links.specs.declared.Link.{Link}
-use Rattle.links.specs.Link.{elsewhere, joins}
-use Rattle.lineage.specs.Family.{Family, family, node_at}
+use Rattle.links.specs.Link.{elsewhere}
+use Rattle.lineage.specs.Family.{Family, family}
 use Rattle.lineage.specs.Deaths.{mourned, buried, doomed, one_dies, repeated, settled}
 use Rattle.lineage.proofs.Burials.{buried_fewer, repeated_none}
-use Rattle.supervision.specs.Sound.{Lives, Born, Kin, Kept}
+use Rattle.supervision.specs.Sound.{Born, Kept}
 use Rattle.supervision.proofs.Solid.{Solid, Loose, Within, solid_within, solid_dropped, solid_changed, joins_parent}
 
 -- what is doomed has no living child

@@ -1,18 +1,15 @@
 -- A new node keeps the facts of a tree.
-use Rattle.std.proofs.Common.{◌≡◌, ℕ, ◌+◌, ◌<◌, Bool, true, false, cond, ◌&&◌, ◌||◌, eqb, ltb, ◌⊎◌, List, [], ◌∷◌, ◌++◌, is_some, Some, None, Option, sym, refl, ap, ◌∙◌, subst, inl, inr, arith}
+use Rattle.std.proofs.Common.{◌≡◌, ℕ, ◌+◌, ◌<◌, Bool, true, false, eqb, ltb, [], ◌∷◌, is_some, Some, None, sym, refl, ap, ◌∙◌, subst, inl, inr, arith}
 use Rattle.std.proofs.lemmas.Bool.{eq-eqb, eqb-true, lt-ltb, ltb-true, and_parts, and_from, or_left, or_cases, both_ways, false≢true}
-use Rattle.keyed.specs.Keyed.{find}
-use Rattle.keyed.specs.Choices.{holds}
 use Rattle.keyed.proofs.Orders.{ordered_push, find_within}
 use Rattle.keyed.proofs.Finds.{same_some, find_push, find_push_old, find_change_here}
 use Rattle.keyed.proofs.Maps.{some_is, is_some_is}
 use Rattle.keyed.proofs.Searches.{any_left, any_right, any_parts}
 use Rattle.nodes.specs.declared.Node.{Node}
 use Rattle.nodes.specs.Node.{serial_of, fresh, with_stale, child_of}
-use Rattle.links.specs.declared.Link.{Link}
 use Rattle.links.specs.Link.{link, joins}
-use Rattle.lineage.specs.Family.{Family, family, node_at}
-use Rattle.lineage.specs.Births.{swept, tidied, grown, joined, born}
+use Rattle.lineage.specs.Family.{Family, node_at}
+use Rattle.lineage.specs.Births.{tidied, grown, joined, born}
 use Rattle.supervision.specs.Sound.{Lives, has_link, Born, Kin, Led, Joined}
 use Rattle.supervision.proofs.Solid.{Frame, Solid, tidied_by, solid_tidied}
 

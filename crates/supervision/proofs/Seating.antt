@@ -1,5 +1,5 @@
 -- No call seats a task at a second node.
-use Rattle.std.proofs.Common.{◌≡◌, ℕ, zero, suc, ◌+◌, ◌<◌, ◌≤◌, Bool, true, false, cond, eqb, ◌⊎◌, List, [], ◌∷◌, ◌++◌, map, reverse, length, Some, None, Option, sym, refl, ap, ◌∙◌, subst, inl, inr, arith}
+use Rattle.std.proofs.Common.{◌≡◌, ℕ, zero, suc, ◌+◌, ◌≤◌, Bool, true, false, cond, eqb, List, [], ◌∷◌, ◌++◌, map, reverse, length, Some, None, Option, sym, refl, ap, subst, inl, inr, arith}
 use Rattle.std.proofs.lemmas.Bool.{cond_both, cases_Bool, eqb-true, eq-eqb}
 use Rattle.std.specs.Option.{option_map}
 use Rattle.keyed.specs.Keyed.{ordered, change, without}
@@ -10,8 +10,8 @@ use Rattle.keyed.proofs.Maps.{change_map, on_same}
 use Rattle.keyed.proofs.Orders.{ordered_first, change_low}
 use Rattle.nodes.specs.declared.Node.{Node}
 use Rattle.nodes.specs.Node.{serial_of, fresh, with_task, with_stale, bereaved, vacated, taken, seats}
-use Rattle.lineage.specs.Family.{Family, family, node_at}
-use Rattle.lineage.specs.Births.{swept, tidied, born}
+use Rattle.lineage.specs.Family.{Family, node_at}
+use Rattle.lineage.specs.Births.{tidied, born}
 use Rattle.lineage.specs.Deaths.{mourned, buried, doomed, one_dies, repeated, settled}
 use Rattle.lineage.specs.Cascade.{Step, condemned, passed, struck, step_at, step, walk, cascaded}
 use Rattle.supervision.specs.Sound.{seats_with, Single}

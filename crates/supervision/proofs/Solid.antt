@@ -1,19 +1,18 @@
 -- The facts of a tree together, and the changes that keep them because they add nothing.
-use Rattle.std.proofs.Common.{◌≡◌, ℕ, ◌<◌, Bool, true, false, cond, not, ◌&&◌, ◌||◌, eqb, ltb, List, [], ◌∷◌, map, is_some, Some, None, filter, Option, sym, refl, ap, ◌∙◌, subst}
+use Rattle.std.proofs.Common.{◌≡◌, ℕ, Bool, true, cond, eqb, ltb, List, map, is_some, Some, None, filter, Option, sym, refl, ap, ◌∙◌, subst}
 use Rattle.std.proofs.lemmas.Bool.{eqb-true, and_parts, or_right, cond_both}
-use Rattle.std.specs.Option.{option_map}
-use Rattle.keyed.specs.Keyed.{ordered, find, change}
+use Rattle.keyed.specs.Keyed.{ordered, find}
 use Rattle.keyed.specs.Choices.{holds, given}
 use Rattle.keyed.proofs.Finds.{on, unmapped}
 use Rattle.keyed.proofs.Maps.{change_map, on_same, find_map, ordered_map, is_some_mapped, is_some_is}
 use Rattle.keyed.proofs.Searches.{any_kept, any_unkept}
 use Rattle.nodes.specs.declared.Node.{Node}
-use Rattle.nodes.specs.Node.{serial_of, with_stale, child_of}
+use Rattle.nodes.specs.Node.{serial_of, with_stale}
 use Rattle.links.specs.declared.Link.{Link}
 use Rattle.links.specs.Link.{from, joins, survives, elsewhere}
 use Rattle.lineage.specs.Family.{Family, family, node_at, changed}
 use Rattle.lineage.specs.Births.{swept, tidied}
-use Rattle.supervision.specs.Sound.{Lives, has_link, Born, Kin, Led, Joined, Rooted, Shielded, Linked, Honest, Past}
+use Rattle.supervision.specs.Sound.{Lives, has_link, Born, Kin, Rooted, Shielded, Linked, Honest, Past}
 
 -- the facts that no flag enters into
 pub record Frame (F : Family) : Type 0 where

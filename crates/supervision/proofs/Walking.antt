@@ -1,5 +1,5 @@
 -- The walk of a cascade keeps what always holds of a tree, and aborts what is under its top and nothing else.
-use Rattle.std.proofs.Common.{◌≡◌, ℕ, zero, suc, ◌+◌, Bool, true, false, cond, not, eqb, ◌⊎◌, List, [], ◌∷◌, ◌++◌, reverse, length, Some, None, filter, Option, sym, refl, ap, ◌∙◌, subst, inl, inr, arith}
+use Rattle.std.proofs.Common.{◌≡◌, ℕ, zero, suc, ◌+◌, true, false, cond, not, eqb, ◌⊎◌, List, [], ◌∷◌, ◌++◌, reverse, length, Some, None, filter, Option, sym, refl, ap, ◌∙◌, subst, inl, inr, arith}
 use Rattle.std.proofs.lemmas.Bool.{cond_both, both_ways, ne_eqb, false≢true}
 use Rattle.std.proofs.lemmas.List.{nil_from_length, length-append, length-reverse}
 use Rattle.keyed.specs.Keyed.{change}
@@ -9,15 +9,14 @@ use Rattle.keyed.proofs.Finds.{on, same_some, some_not_none, find_change_some}
 use Rattle.keyed.proofs.Members.{in_left, in_right, in_parts, in_reverse, in_unreverse}
 use Rattle.keyed.proofs.Searches.{any_kept}
 use Rattle.nodes.specs.declared.Node.{Node}
-use Rattle.nodes.specs.Node.{serial_of, child_of}
-use Rattle.links.specs.declared.Link.{Link}
+use Rattle.nodes.specs.Node.{serial_of}
 use Rattle.links.specs.Link.{joins, elsewhere, children}
 use Rattle.lineage.specs.Family.{Family, family, node_at, changed, aborted_at}
 use Rattle.lineage.specs.Cascade.{Step, condemned, passed, struck, step_at, step, walk, cascaded}
 use Rattle.lineage.proofs.Visits.{step_leaves}
-use Rattle.supervision.specs.Sound.{Lives, has_link, Born, Kin, Led, Shielded, Linked, Kept, Single}
+use Rattle.supervision.specs.Sound.{Lives, has_link, Kin, Shielded, Linked, Kept, Single}
 use Rattle.supervision.specs.Laws.{Under, itself, below, AllAborted}
-use Rattle.supervision.proofs.Solid.{Frame, Solid, frame_changed, frame_loose, loose_dropped, joins_parent}
+use Rattle.supervision.proofs.Solid.{Frame, frame_changed, frame_loose, loose_dropped, joins_parent}
 use Rattle.supervision.proofs.Keeping.{kept_change}
 use Rattle.supervision.proofs.Whole.{Whole}
 use Rattle.supervision.proofs.Struck.{Before, before, linked_child, child_linked}

@@ -1,21 +1,21 @@
 -- Each call keeps all that always holds of a tree.
-use Rattle.std.proofs.Common.{◌≡◌, ℕ, Bool, true, false, cond, not, ◌||◌, List, [], ◌∷◌, ◌++◌, map, Some, None, Option, sym, refl, ap, ◌∙◌, subst, inl, inr, arith}
+use Rattle.std.proofs.Common.{◌≡◌, ℕ, Bool, true, false, cond, [], map, Some, None, Option, sym, refl, ap, ◌∙◌, subst, inl, inr, arith}
 use Rattle.std.proofs.lemmas.Bool.{false≢true, cases_Bool}
 use Rattle.keyed.specs.Choices.{given, holds}
 use Rattle.keyed.proofs.Finds.{some_not_none}
 use Rattle.nodes.specs.declared.Node.{Node}
 use Rattle.nodes.specs.Node.{with_owner, with_task, with_stale, released, vacated, taken}
 use Rattle.lineage.specs.Family.{Family, family, node_at, changed, open_for, aborted_at}
-use Rattle.lineage.specs.Births.{swept, tidied, grown, orphaned, joined, born}
+use Rattle.lineage.specs.Births.{tidied, grown, born}
 use Rattle.lineage.specs.Deaths.{settled}
 use Rattle.supervision.specs.declared.Tree.{Tree}
-use Rattle.supervision.specs.Sound.{Lives, Rooted, Shielded, Linked, Honest, Past, Kept, seats_with, Single}
+use Rattle.supervision.specs.Sound.{Lives, Rooted, Shielded, Linked, Honest, Past, Kept, Single}
 use Rattle.supervision.specs.declared.Refusal.TheVariants.{NotOpen}
 use Rattle.supervision.specs.Calls.{view, founded, child_refusal, closed, seated, seat_of, closed_all, left}
-use Rattle.supervision.proofs.Solid.{Frame, Solid, solid_map, solid_changed, tidied_by}
+use Rattle.supervision.proofs.Solid.{Solid, solid_map, solid_changed, tidied_by}
 use Rattle.supervision.proofs.Dying.{solid_settled, kept_settled}
 use Rattle.supervision.proofs.Newborn.{solid_alone, solid_born}
-use Rattle.supervision.proofs.Keeping.{held, kept_change, kept_grown}
+use Rattle.supervision.proofs.Keeping.{kept_change, kept_grown}
 use Rattle.supervision.proofs.Seating.{fewer_single, fewer_kept, fewer_change, fewer_vacated, fewer_push, fewer_born, single_settled, single_taken, no_seat_born}
 
 -- all that always holds

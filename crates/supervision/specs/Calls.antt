@@ -1,5 +1,5 @@
 -- What a tree stands for, what each call answers, and what it makes of the tree.
-use Rattle.std.specs.Prelude.{ℕ, Bool, true, false, cond, List, [], ◌∷◌, map, length, Some, None, filter, Option}
+use Rattle.std.specs.Prelude.{ℕ, false, cond, List, [], map, length, Some, None, filter, Option}
 use Rattle.std.specs.Option.{option_map}
 use Rattle.keyed.specs.Choices.{whether}
 use Rattle.keyed.specs.Members.{first}

@@ -1,4 +1,4 @@
-use Rattle.std.proofs.Common.{◌≡◌, length, sym, refl, ap, ◌∙◌, arith}
+use Rattle.std.proofs.Common.{length, ap, ◌∙◌, arith}
 use Rattle.lineage.specs.Family.{Family, family_of}
 use Rattle.lineage.proofs.Newborn.{tidied_tells, born_is}
 use Rattle.lineage.proofs.births.bear.Goals as goal

@@ -1,4 +1,4 @@
-use Rattle.std.proofs.Common.{◌≡◌, length, sym, ap, ◌∙◌, arith}
+use Rattle.std.proofs.Common.{length, sym, ap, ◌∙◌, arith}
 use Rattle.lineage.specs.Family.{Family, family_of}
 use Rattle.lineage.proofs.Burials.{buried_fewer, settle_more, settle_end}
 use Rattle.lineage.proofs.deaths.settle.Goals as goal

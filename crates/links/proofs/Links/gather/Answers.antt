@@ -1,4 +1,4 @@
-use Rattle.std.proofs.Common.{◌≡◌, ◌<◌, ◌≤◌, List, length, sym, ap, ◌∙◌, arith}
+use Rattle.std.proofs.Common.{length, ap, ◌∙◌, arith}
 use Rattle.links.proofs.Gathering.{gathered_more, gathered_same, gathered_all}
 use Rattle.links.proofs.Links.gather.Goals as goal
 use Rattle.links.proofs.Links.gather.Goals.{then-link-parent, else-link-parent}

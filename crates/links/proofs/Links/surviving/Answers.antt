@@ -1,4 +1,4 @@
-use Rattle.std.proofs.Common.{true, false, sym, ap, ◌∙◌, arith, rules}
+use Rattle.std.proofs.Common.{true, false, sym, ◌∙◌, arith, rules}
 use Rattle.std.proofs.lemmas.List.{take_all}
 use Rattle.keyed.proofs.Counts.{more_kept}
 use Rattle.links.proofs.Links.surviving.Goals as goal

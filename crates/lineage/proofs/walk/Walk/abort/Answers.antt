@@ -1,9 +1,9 @@
-use Rattle.std.proofs.Common.{◌≡◌, ℕ, ◌+◌, List, [], ◌∷◌, ◌++◌, length, vec_items, sym, refl, ap, ◌∙◌, arith}
+use Rattle.std.proofs.Common.{◌≡◌, ℕ, ◌+◌, List, [], ◌∷◌, ◌++◌, length, vec_items, ap, ◌∙◌, arith}
 use Rattle.std.proofs.lemmas.List.{nil_from_length, length-append}
 use Rattle.nodes.specs.Living.{living}
 use Rattle.links.specs.Linked.{linked}
 use Rattle.lineage.specs.Family.{family_of}
-use Rattle.lineage.specs.Walked.{to_mark, to_visit}
+use Rattle.lineage.specs.Walked.{to_visit}
 use Rattle.lineage.proofs.Visits.{unaborted_few, turn_falls, turn_room}
 use Rattle.lineage.proofs.Going.{going_start, going_more, going_end}
 use Rattle.lineage.proofs.walk.Walk.abort.Goals as goal

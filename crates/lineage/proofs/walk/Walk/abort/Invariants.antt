@@ -1,4 +1,4 @@
-use Rattle.std.proofs.Common.{◌≡◌, ◌+◌, ◌≤◌, length}
+use Rattle.std.proofs.Common.{◌+◌, ◌≤◌, length}
 use Rattle.nodes.specs.Living.{living}
 use Rattle.links.specs.Linked.{linked}
 use Rattle.lineage.specs.Family.{family_of}
