@@ -1,6 +1,6 @@
 -- Ringing order, and what an arming keeps of it.
 use Rattle.std.proofs.Common.{◌≡◌, ℕ, ◌+◌, ◌<◌, ◌≤◌, Bool, true, cond, not, ◌&&◌, ◌||◌, eqb, ltb, leb, ◌⊎◌, List, [], ◌∷◌, sym, refl, ap, ◌∙◌, inl, inr, ⊎_elim, arith}
-use Rattle.std.specs.List.{AllByRecursion as All}
+use Rattle.std.specs.List.{AllByRecursion}
 use Rattle.std.proofs.lemmas.Bool.Decides.{nat_tests}
 use Rattle.std.proofs.lemmas.Bool.{and_parts, and_from, leb-true, leb-false, ltb-true, lt-ltb, eqb-false, ne_eqb, not-true, not_from_false, cond_both}
 use Rattle.keyed.specs.Members.{In}
@@ -46,7 +46,7 @@ from_first : (next : ℕ) (a : Alarm) (more : List Alarm) → First next a more 
 from_first next a more f = and_from _ _ (lt-ltb a.serial next f.low) (and_from _ _ f.leading (and_from _ _ f.alone f.rest))
 
 -- an alarm that leads a list rings before each of it
-pub leads_all : (a : Alarm) (bs : List Alarm) → leads a bs ≡ true → All (Before a) bs
+pub leads_all : (a : Alarm) (bs : List Alarm) → leads a bs ≡ true → AllByRecursion (Before a) bs
 leads_all a [] h = tt
 leads_all a (b ∷ bs) h = let p = and_parts (before a b) (leads a bs) h in (before_is a b p.0, leads_all a bs p.1)
 
@@ -123,7 +123,7 @@ ordered_placed a (b ∷ bs) o =
     }))
 
 -- every serial of a list in order is below the next
-pub ordered_below : (next : ℕ) (bs : List Alarm) → ordered next bs ≡ true → All (λ b. b.serial < next) bs
+pub ordered_below : (next : ℕ) (bs : List Alarm) → ordered next bs ≡ true → AllByRecursion (λ b. b.serial < next) bs
 ordered_below next [] o = tt
 ordered_below next (b ∷ bs) o = let f = first_of next b bs o in (f.low, ordered_below next bs f.rest)
 

@@ -1,7 +1,7 @@
 -- What rings and what stays, of alarms in ringing order.
 use Rattle.std.proofs.Common.{◌≡◌, ℕ, ◌<◌, ◌≤◌, true, leb, List, [], ◌∷◌, ◌++◌, is_some, Option, unwrap_or, sym, refl, ap, ◌∙◌, inl, ⊎_elim, arith}
 use mathlib.Core.Bool.{false≢true}
-use Rattle.std.specs.List.{AllByRecursion as All}
+use Rattle.std.specs.List.{AllByRecursion}
 use Rattle.std.proofs.lemmas.Bool.{and_parts, lt-leb, leb-true, leb-false, cases_Bool}
 use Rattle.alarms.specs.declared.Alarm.{Alarm}
 use Rattle.alarms.specs.Order.{before, leads, ordered}
@@ -74,7 +74,7 @@ whole_ringing clock next xs o = record {
   in_front = due_in_front clock next xs o;
 }
 
-all_from : (a : Alarm) (bs : List Alarm) → leads a bs ≡ true → All (λ b. a.time ≤ b.time) bs
+all_from : (a : Alarm) (bs : List Alarm) → leads a bs ≡ true → AllByRecursion (λ b. a.time ≤ b.time) bs
 all_from a [] l = tt
 all_from a (b ∷ bs) l = let p = and_parts (before a b) (leads a bs) l in (before_time a b p.0, all_from a bs p.1)
 

@@ -1,6 +1,6 @@
 -- What the calls on alarms keep, in the words of alarms and times.
 use Rattle.std.specs.Prelude.{◌≡◌, ℕ, ◌<◌, ◌≤◌, not, leb, ◌⊎◌, List, [], ◌∷◌, ◌++◌, length, Some, None, Ok, Err, filter, Option, Result, ◌≢◌, nat_le}
-use Rattle.std.specs.List.{AllByRecursion as All}
+use Rattle.std.specs.List.{AllByRecursion}
 use Rattle.keyed.specs.Members.{In}
 use Rattle.alarms.specs.declared.Alarm.{Alarm}
 use Rattle.alarms.specs.declared.Full.{Full}
@@ -25,7 +25,7 @@ pub record RingsFirst (now : ℕ) (standing rest : List Alarm) (a : Alarm) : Typ
   pub stood : standing ≡ a ∷ rest
   pub due_rest : due now standing ≡ a ∷ due now rest
   pub later_rest : later now standing ≡ later now rest
-  pub first : All (Before a) rest
+  pub first : AllByRecursion (Before a) rest
 
 -- no ring: every alarm that stands is later, and all stay
 pub record RingsNone (now : ℕ) (standing rest : List Alarm) : Type 0 where
@@ -54,7 +54,7 @@ pub record Least (standing : List Alarm) (t : ℕ) : Type 0 where
   pub alarm : Alarm
   pub stands : In alarm standing
   pub at : alarm.time ≡ t
-  pub least : All (λ a. t ≤ a.time) standing
+  pub least : AllByRecursion (λ a. t ≤ a.time) standing
 
 -- the earliest time is the least, and there is none only if no alarm stands
 abbrev pub Earliest : List Alarm → Option ℕ → Type 0
@@ -64,7 +64,7 @@ Earliest standing (Some t) = Least standing t
 -- the serial of an arming is new: it is the next serial, every alarm that stands has a lower one, and the next serial is then above it, so that none is given twice
 pub record Rises (was is : Bells) (serial : ℕ) : Type 0 where
   pub counted : serial ≡ was.next
-  pub new : All (λ a. a.serial < serial) was.alarms
+  pub new : AllByRecursion (λ a. a.serial < serial) was.alarms
   pub above : serial < is.next
 
 -- an arming gets a new serial, or as many alarms stand as may and nothing changes

@@ -1,6 +1,6 @@
 -- Every order can come: the last id is drawn from where it stands, and the ids before it are reached likewise. Assumes nothing.
 use Rattle.std.proofs.Common.{◌≡◌, ℕ, zero, suc, ◌+◌, ◌-◌, ◌%◌, ◌<◌, Bool, true, cond, eqb, List, [], ◌∷◌, ◌++◌, length, get_or, take, set, count_by, sym, refl, ap, ◌∙◌, ⊎_elim, mod-lt, mod-eq_of_lt, arith}
-use Rattle.std.specs.List.{swap, AllByRecursion as All}
+use Rattle.std.specs.List.{swap, AllByRecursion}
 use Rattle.std.specs.List.Sorted.{IsPermutation}
 use Rattle.std.proofs.ByRecursion.{All-weaker}
 use Rattle.std.proofs.lemmas.List.{get_or_append_left, get_or_default, get_or-set_other, get_or-set_same, length-set, length-take-le, nil_from_length, set-append_left, take_all, take_more}
@@ -106,7 +106,7 @@ drawn xs ys i j lx k e =
 -- the draws that lead from the ids to the order by the swaps from place i on down
 record SwappedTo (i : ℕ) (xs ys : List ℕ) : Type 0 where
   draws : List ℕ
-  low : All (λ d. d < i + 1) draws
+  low : AllByRecursion (λ d. d < i + 1) draws
   is : (swaps tape_rule i (deck draws xs)).items ≡ ys
 
 swapped_to : (i : ℕ) (xs ys : List ℕ) → length xs ≡ i + 1 → length ys ≡ i + 1 → EquallyOften xs ys → SwappedTo i xs ys

@@ -1,6 +1,6 @@
 -- Rows that are entered, found and listed.
 use Rattle.std.proofs.Common.{◌≡◌, ℕ, suc, ◌+◌, ◌<◌, ◌≤◌, Bool, true, false, cond, List, [], ◌∷◌, ◌++◌, map, length, get_or, take, Some, filter, sym, refl, ap, ◌∙◌, arith}
-use Rattle.std.specs.List.{AllByRecursion as All}
+use Rattle.std.specs.List.{AllByRecursion}
 use Rattle.std.proofs.lemmas.List.Elements.{filter_more}
 use Rattle.std.proofs.ByRecursion.{All-weaker}
 use Rattle.std.proofs.lemmas.List.{map-append, take_all}
@@ -42,12 +42,12 @@ module _ (whom : Whom) (xs : List Row) (i : ℕ) (ids : List ℕ) (so_far : ids 
   called_all past = so_far ∙ ap (called whom) (take_all i xs (rw same at past))
 
 -- what is called of rows in order is at least their bound
-called_above : (whom : Whom) (lo hi : ℕ) (xs : List Row) → ordered task_of lo hi xs ≡ true → All (λ k. lo ≤ k) (called whom xs)
+called_above : (whom : Whom) (lo hi : ℕ) (xs : List Row) → ordered task_of lo hi xs ≡ true → AllByRecursion (λ k. lo ≤ k) (called whom xs)
 called_above whom lo hi [] o = tt
 called_above whom lo hi (x ∷ xs) o =
     let p = ordered_first task_of lo hi x xs o in
     let rest = All-weaker (λ k. suc x.task ≤ k) (λ k. lo ≤ k) (λ k h. omega (arith, p.0)) (called whom xs) (called_above whom (suc x.task) hi xs p.1) in
-    elim (listens whom x) as (λ b. All (λ k. lo ≤ k) (map task_of (cond b (x ∷ filter (listens whom) xs) (filter (listens whom) xs)))) [ true ↦ (p.0, rest) | false ↦ rest ]
+    elim (listens whom x) as (λ b. AllByRecursion (λ k. lo ≤ k) (map task_of (cond b (x ∷ filter (listens whom) xs) (filter (listens whom) xs)))) [ true ↦ (p.0, rest) | false ↦ rest ]
 
 called_ascending_from : (whom : Whom) (lo hi : ℕ) (xs : List Row) → ordered task_of lo hi xs ≡ true → Ascending (called whom xs)
 called_ascending_from whom lo hi [] o = tt

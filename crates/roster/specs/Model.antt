@@ -1,6 +1,6 @@
 -- What a roster stands for, and what each call makes of it and answers.
 use Rattle.std.specs.Prelude.{ℕ, ◌+◌, ◌<◌, Bool, false, List, [], ◌∷◌, ◌++◌, map, vec_items, filter}
-use Rattle.std.specs.List.{AllByRecursion as All}
+use Rattle.std.specs.List.{AllByRecursion}
 use Rattle.keyed.specs.Keyed.{find, change, without}
 use Rattle.keyed.specs.Members.{any}
 use Rattle.keyed.specs.Choices.{given}
@@ -50,4 +50,4 @@ called whom rows = map task_of (filter (listens whom) rows)
 -- ids ascend, so that each stands once
 abbrev pub Ascending : List ℕ → Type 0
 Ascending [] = Unit {0}
-Ascending (k ∷ ks) = All (λ j. k < j) ks × Ascending ks
+Ascending (k ∷ ks) = AllByRecursion (λ j. k < j) ks × Ascending ks
