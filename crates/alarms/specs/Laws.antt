@@ -1,5 +1,5 @@
 -- What the calls on alarms keep, in the words of alarms and times.
-use Rattle.std.specs.Prelude.{◌≡◌, ℕ, ◌<◌, ◌≤◌, not, leb, ◌⊎◌, List, [], ◌∷◌, ◌++◌, length, Some, None, Ok, Err, filter, Option, Result, ◌≢◌, nat_le}
+use Rattle.std.specs.Prelude.{◌≡◌, ℕ, ◌<◌, ◌≤◌, not, ◌⊎◌, List, [], ◌∷◌, ◌++◌, length, Some, None, Ok, Err, filter, Option, Result, ◌≢◌, nat_le}
 use Rattle.std.specs.List.{AllByRecursion}
 use Rattle.keyed.specs.Members.{In}
 use Rattle.alarms.specs.declared.Alarm.{Alarm}
@@ -13,7 +13,7 @@ Before a b = (a.time < b.time) ⊎ ((a.time ≡ b.time) × (a.serial < b.serial)
 
 -- the alarms at or before a time
 abbrev pub due : ℕ → List Alarm → List Alarm
-due now = filter (λ a. leb a.time now)
+due now = filter (λ a. nat_le a.time now)
 
 -- the alarms after a time
 abbrev pub later : ℕ → List Alarm → List Alarm

@@ -1,6 +1,6 @@
 -- The order in which alarms ring.
 --
--- most-alarms   the bound on how many stand
+-- most_alarms   the bound on how many stand
 -- before        one alarm rings before another
 -- leads         an alarm rings before each of a list
 -- unused        no alarm of a list has a serial

@@ -1,5 +1,5 @@
 // The conditions of a call: each is one test, which answers its refusal or none.
-ghost use Rattle.std.specs.Prelude.{◌≡◌, leb};
+ghost use Rattle.std.specs.Prelude.{◌≡◌, nat_le};
 ghost use Rattle.model.specs.declared.refusal.Refusal.TheVariants.{NoRoom};
 ghost use Rattle.model.specs.Model.{free};
 ghost use Rattle.model.specs.Refusals.{unless, call_granted, room as room_left, id_known, not_root, context_held, task_free, node_left, link_left, place_free, serial_fits, alarm_left, alarm_fits};
@@ -33,7 +33,7 @@ pub fn call_granted(state: &State) -> Option<Refusal>
 
 // FREE_ENTRIES are free.
 fn entries_free(state: &State) -> Option<Refusal>
-    ensures { result ≡ unless (leb 512 (free (view state.now))) NoRoom }
+    ensures { result ≡ unless (nat_le 512 (free (view state.now))) NoRoom }
 {
     if state.dispatcher.free() >= FREE_ENTRIES {
         None
