@@ -1,9 +1,7 @@
 -- The facts of an executor and the bounds of its state are the same.
-use mathlib.Core.Path.{◌≡◌}
 use Rattle.model.specs.Model.{Model}
 use Rattle.model.specs.Bounds.{Sound, Calm, Spare}
 use Rattle.bounds.specs.Kept.{Bounded}
-use Rattle.state.specs.View as state
 use Rattle.executor.specs.declared.Executor.{Executor}
 use Rattle.executor.specs.Facts.{Listed, Seated, Entered, Counted, Spent}
 use Rattle.executor.specs.View.{view}

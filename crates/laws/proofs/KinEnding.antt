@@ -19,7 +19,7 @@ use Rattle.model.specs.Model.{Task, Registry, Model, id_of, task_at, with_task, 
 use Rattle.model.specs.Moves.{Move, wake, register, arm, mark, pend, leave, grow, quiet, fell, tally, keep, move, moves}
 use Rattle.model.specs.Calls.{marking, marking_task}
 use Rattle.model.specs.Ending.{contexts_close, signal_goes, fault_kept, others, markings, cascading, cascade_of, cascade, stops_running, ending_of}
-use Rattle.model.specs.Below.{Tiding, seated, marked, ended}
+use Rattle.model.specs.Below.{Tiding, seated, marked}
 use Rattle.model.proofs.Choices.{cond_by}
 use Rattle.laws.proofs.KinTold.{told_before}
 use Rattle.laws.proofs.KinWatched.{Listed, Watched}

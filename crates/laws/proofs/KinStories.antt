@@ -10,7 +10,7 @@ use Rattle.supervision.specs.Calls.{founded}
 use Rattle.supervision.proofs.Whole.{whole_founded}
 use Rattle.model.specs.Model.{Task, Registry, Model, id_of, new_task}
 use Rattle.model.specs.Run.{Finish}
-use Rattle.model.specs.Below.{Tiding, marked}
+use Rattle.model.specs.Below.{Tiding}
 use Rattle.model.specs.Acts.{telling, all_of}
 use Rattle.model.specs.History.{Round, over, told}
 use Rattle.laws.specs.Story as story

@@ -1,25 +1,23 @@
 -- The run as a function is a run by the rules.
-use Rattle.std.proofs.Common.{◌≡◌, ℕ, zero, suc, ◌+◌, ◌^◌, ◌<◌, ◌≤◌, Bool, true, false, cond, eqb, ltb, leb, List, [], ◌∷◌, ◌++◌, map, length, Some, None, Option, sym, refl, ap, ◌∙◌, subst, arith, ltb-false, ltb-true, eqb-true, le-leb, leb-false, leb-true}
+use Rattle.std.proofs.Common.{◌≡◌, ℕ, zero, suc, ◌+◌, ◌^◌, ◌<◌, ◌≤◌, Bool, true, false, cond, eqb, ltb, leb, List, [], ◌∷◌, length, Some, None, Option, sym, refl, ap, ◌∙◌, subst, arith, ltb-false, ltb-true, eqb-true, le-leb, leb-true}
 use borrow.Author.Tests.{eqb-false}
 use Rattle.keyed.specs.Keyed.{find}
-use Rattle.keyed.specs.Choices.{whether, given}
+use Rattle.keyed.specs.Choices.{given}
 use Rattle.reasons.specs.declared.ending.Ending.TheVariants as ending
 use Rattle.alarms.specs.declared.Alarm.{Alarm}
 use Rattle.alarms.specs.Model.{earliest}
-use Rattle.arrange.specs.Order.{Order, asked}
-use Rattle.model.specs.declared.outcome.Outcome.{Outcome}
+use Rattle.arrange.specs.Order.{Order}
 use Rattle.model.specs.Model.{Task, Model, free, task_at, id_of}
-use Rattle.model.specs.Moves.{Move, moves, after_doing}
-use Rattle.model.specs.Calls.{Call, apply, doings_of}
+use Rattle.model.specs.Calls.{apply}
 use Rattle.model.specs.Ending.{ending_of}
 use Rattle.model.specs.Rules.{Turn}
 use Rattle.model.specs.Start as run
 use Rattle.model.specs.Start.{Settings, idle, started}
 use Rattle.model.specs.Facts.{HasGone}
 use Rattle.entry.specs.declared.Entry.{Entry}
-use Rattle.model.specs.Run.{Finish, ledger_spent, faulted, timed_out, stalled, clock_spent, Stage, stage, Final, final, expired, opened, skipped, polled, called, settle, finish_of, ticked, leapt, leapt_to, jump, if_later, rung, completed, ended, deals, deal, deal_task, dealt, close, close_moved, close_rung, rounds}
-use Rattle.model.specs.Acts.{Act, did, poll, skip, call}
-use Rattle.model.specs.History.{Round, Close, never}
+use Rattle.model.specs.Run.{Finish, ledger_spent, faulted, timed_out, stalled, clock_spent, Stage, Final, expired, opened, polled, settle, ticked, leapt, leapt_to, jump, if_later, rung, deals, deal, deal_task, dealt, close, close_moved, rounds}
+use Rattle.model.specs.Acts.{Act}
+use Rattle.model.specs.History.{Round}
 use Rattle.model.specs.Went as went
 use Rattle.model.specs.Went.{Expired, Dealt, Callable, Jumps, jumped_to, end_acts, turn_acts, turned_to, at_call, turn_at, Deals, order, arranged, round_of, Ticks, Plays, Went}
 use Rattle.model.proofs.Choices.{cond_by, whether_by, given_by, not_both, not_true_false, no_length, some_length}

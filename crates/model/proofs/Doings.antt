@@ -1,5 +1,5 @@
 -- Moves one after another, and the calls as moves.
-use Rattle.std.proofs.Common.{◌≡◌, List, [], ◌∷◌, ◌++◌, sym, refl, ap, ◌∙◌}
+use Rattle.std.proofs.Common.{◌≡◌, List, [], ◌∷◌, ◌++◌, refl, ◌∙◌}
 use Rattle.model.specs.Model.{Model}
 use Rattle.model.specs.Moves.{Move, move, moves, Doing, ◌then◌, after_doing}
 use Rattle.model.specs.Calls.{Call, doings, after, apply, doings_of}

@@ -1,5 +1,5 @@
 -- What moves leave: the drained ids stay drained, and the free entries of the ledger never grow more.
-use Rattle.std.proofs.Common.{◌≡◌, ℕ, suc, ◌+◌, ◌<◌, ◌≤◌, Bool, true, false, cond, List, [], ◌∷◌, ◌++◌, length, Some, None, Option, sym, refl, ap, ◌∙◌, arith}
+use Rattle.std.proofs.Common.{◌≡◌, ℕ, ◌<◌, ◌≤◌, List, [], ◌∷◌, length, Some, None, Option, refl, ◌∙◌, arith}
 use Rattle.entry.specs.declared.Entry.{Entry}
 use Rattle.alarms.specs.declared.Alarm.{Alarm}
 use Rattle.alarms.specs.Laws.{due, later}
@@ -7,7 +7,7 @@ use Rattle.entry.specs.declared.Entry.TheVariants as entry
 use Rattle.keyed.specs.Choices.{given}
 use Rattle.ledger.specs.Book.{rest}
 use Rattle.model.specs.Model.{Model, free, queued, with_alarms}
-use Rattle.model.specs.Moves.{Move, wake, register, arm, mark, pend, leave, grow, quiet, move, moves, Doing, after_doing}
+use Rattle.model.specs.Moves.{Move, wake, register, arm, mark, pend, leave, grow, quiet, move, moves}
 use Rattle.model.specs.Calls.{Call, doings, after, apply}
 use Rattle.model.specs.Run.{opened, ringing, standing, rung, leapt, leapt_to, jump}
 

@@ -2,7 +2,7 @@
 --
 -- act       a move of a body's call or of a task's end, or a deal: a skip, or a poll, with the call of the body after it
 -- reading   what an act queues, deals, arms, writes and tells
-use Rattle.std.specs.Prelude.{ℕ, Bool, true, false, List, [], ◌∷◌, ◌++◌}
+use Rattle.std.specs.Prelude.{ℕ, Bool, List, [], ◌∷◌, ◌++◌}
 use Rattle.entry.specs.declared.Entry.{Entry}
 use Rattle.entry.specs.declared.Entry.TheVariants as entry
 use Rattle.alarms.specs.declared.Alarm.{Alarm}

@@ -2,7 +2,7 @@
 --
 -- tiding   what an act tells: a node was planted, a task was seated, marked, ended, or its body was called
 -- below    a task is below another if its node is under the other's; nodes die, so what was told counts and not what lives
-use Rattle.std.specs.Prelude.{◌≡◌, ℕ, List, [], ◌∷◌, ◌++◌}
+use Rattle.std.specs.Prelude.{◌≡◌, ℕ, List, ◌∷◌, ◌++◌}
 use Rattle.keyed.specs.Members.{In}
 
 pub data Tiding : Type 0 where

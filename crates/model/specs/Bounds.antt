@@ -4,7 +4,7 @@
 -- sound   who is registered, listed and seated agrees, and every number is far below 2^64
 -- calm    how many ids can wait while bodies are called
 -- spare   the entries that stay free while a body is called
-use Rattle.std.specs.Prelude.{◌≡◌, ℕ, ◌+◌, ◌*◌, ◌≤◌, Bool, true, false, cond, List, [], ◌∷◌, map, length, is_some}
+use Rattle.std.specs.Prelude.{◌≡◌, ℕ, ◌+◌, ◌*◌, ◌≤◌, cond, List, [], ◌∷◌, map, length, is_some}
 use Rattle.nodes.specs.declared.Node.{Node}
 use Rattle.roster.specs.Row.{task_of}
 use Rattle.supervision.specs.Sound.{seats_with}

@@ -4,7 +4,7 @@
 -- answer    what a granted call answers
 -- doings    the moves that a call makes; a refused call makes none, but a spawn on an aborted context spends the context
 --           and counts as asked for
-use Rattle.std.specs.Prelude.{ℕ, ◌+◌, Bool, true, false, cond, List, [], ◌∷◌, ◌++◌, ℤ, Some, None, Option, Result}
+use Rattle.std.specs.Prelude.{ℕ, ◌+◌, Bool, cond, List, [], ◌∷◌, ◌++◌, ℤ, Some, None, Option, Result}
 use Rattle.keyed.specs.Choices.{given, answered}
 use Rattle.reasons.specs.declared.cause.Cause.TheVariants as cause
 use Rattle.lineage.specs.Family.{aborted_at}

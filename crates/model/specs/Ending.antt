@@ -1,6 +1,6 @@
 -- The end of a task, in its order: its contexts close; its signal goes; a fault of its own is kept, if it is the first that is
 -- not caught; what is below its node is aborted; it runs no more; it leaves.
-use Rattle.std.specs.Prelude.{ℕ, Bool, true, false, cond, not, List, [], ◌∷◌, ◌++◌, ℤ, Some, None, filter, Option, ◌==◌}
+use Rattle.std.specs.Prelude.{ℕ, Bool, false, cond, not, List, [], ◌∷◌, Some, None, filter, Option, ◌==◌}
 use Rattle.keyed.specs.Choices.{whether, given}
 use Rattle.reasons.specs.declared.cause.Cause.TheVariants as cause
 use Rattle.reasons.specs.declared.ending.Ending.{Ending}
@@ -10,7 +10,7 @@ use Rattle.signal.specs.Model.{ended, completion_wakes}
 use Rattle.model.specs.declared.outcome.Outcome.{Outcome}
 use Rattle.model.specs.declared.outcome.Outcome.TheVariants as outcome
 use Rattle.model.specs.Model.{Task, Model, task_at, one_not_running}
-use Rattle.model.specs.Moves.{Move, wake, pend, leave, grow, close_all, fell, quiet, tally, signals, keep, Doing, ◌then◌, wakes}
+use Rattle.model.specs.Moves.{wake, pend, leave, grow, close_all, fell, quiet, tally, signals, keep, Doing, ◌then◌, wakes}
 use Rattle.model.specs.Calls.{marking}
 
 -- every context that the task holds is closed

@@ -12,7 +12,7 @@
 -- digest     the audit's digest of all events so far
 -- ledger     what is written, and what is blank
 -- body       the task whose body is called, and how many of its calls were granted in this poll
-use Rattle.std.specs.Prelude.{ℕ, ◌+◌, ◌-◌, Bool, true, false, List, [], ◌∷◌, ◌++◌, Some, None, Option}
+use Rattle.std.specs.Prelude.{ℕ, ◌+◌, ◌-◌, Bool, true, false, List, [], ◌∷◌, ◌++◌, Option}
 use Rattle.keyed.specs.Keyed.{find, change, without}
 use Rattle.entry.specs.declared.Entry.{Entry}
 use Rattle.ledger.specs.Book as book

@@ -3,7 +3,7 @@
 -- growth   what happens to the supervision tree
 -- quiet    what touches neither queues, registry, tree, alarms, clock nor ledger
 -- move     one of these, or what queues, registers, arms, marks, pends or ends a task
-use Rattle.std.specs.Prelude.{ℕ, ◌+◌, Bool, true, false, List, [], ◌∷◌, ◌++◌, map, Some, None, Option}
+use Rattle.std.specs.Prelude.{ℕ, ◌+◌, List, [], ◌∷◌, ◌++◌, map, Some}
 use Rattle.entry.specs.declared.Entry.TheVariants as entry
 use Rattle.reasons.specs.declared.cause.Cause.{Cause}
 use Rattle.reasons.specs.declared.ending.Ending.{Ending}

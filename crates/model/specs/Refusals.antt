@@ -1,5 +1,5 @@
 -- The conditions on which calls are refused: each is one test, which gives its refusal or none.
-use Rattle.std.specs.Prelude.{ℕ, ◌+◌, ◌^◌, Bool, true, false, cond, ◌&&◌, ◌||◌, List, length, Some, None, Option, nat_le, nat_lt}
+use Rattle.std.specs.Prelude.{ℕ, ◌+◌, ◌^◌, Bool, cond, ◌||◌, List, length, Some, None, Option, nat_le, nat_lt}
 use Rattle.std.specs.Option.{option_or}
 use Rattle.lineage.specs.Family.{open_for, aborted_at, node_free}
 use Rattle.lineage.specs.Births.{link_free}

@@ -1,5 +1,5 @@
 -- What a crew gives: the meaning of a body is what it does at each call of it.
-use Rattle.std.specs.Prelude.{ℕ, List}
+use Rattle.std.specs.Prelude.{List}
 use Rattle.model.specs.declared.outcome.Outcome.{Outcome}
 use Rattle.model.specs.Calls.{Call}
 

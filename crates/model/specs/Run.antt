@@ -3,7 +3,7 @@
 -- finish   how a run ends: with the root's value, with a fault's code, or for want of time, work, clock or ledger
 -- deal     an id is taken from the drained ones, and skipped, ended or called
 -- close    the clock moves, and the alarms that are due ring
-use Rattle.std.specs.Prelude.{ℕ, zero, suc, ◌+◌, ◌^◌, Bool, true, false, cond, ◌&&◌, List, [], ◌∷◌, ◌++◌, length, ℤ, is_some, Some, None, Option, ◌==◌, nat_le, nat_lt}
+use Rattle.std.specs.Prelude.{ℕ, zero, suc, ◌+◌, ◌^◌, Bool, true, false, cond, List, [], ◌∷◌, length, ℤ, Some, None, Option, ◌==◌, nat_le, nat_lt}
 use Rattle.keyed.specs.Choices.{whether, given}
 use Rattle.entry.specs.declared.Entry.TheVariants as entry
 use Rattle.reasons.specs.declared.ending.Ending.TheVariants as ending
@@ -16,7 +16,7 @@ use Rattle.arrange.specs.Order.{Order, asked}
 use Rattle.auditor.specs.Events.{process_task}
 use Rattle.model.specs.declared.outcome.Outcome.{Outcome}
 use Rattle.model.specs.declared.outcome.Outcome.TheVariants as outcome
-use Rattle.model.specs.Model.{Task, Queues, Model, with_clock, with_queues, with_alarms, with_counts, with_body, free, noted, audited, queued, at_time, task_at, one_iteration, one_poll}
+use Rattle.model.specs.Model.{Task, Model, with_clock, with_queues, with_alarms, with_counts, with_body, free, noted, audited, queued, at_time, task_at, one_iteration, one_poll}
 use Rattle.model.specs.Moves.{Doing, after_doing}
 use Rattle.model.specs.Calls.{apply}
 use Rattle.model.specs.Ending.{ending_of, settling, settling_root}

@@ -1,5 +1,5 @@
 -- Settings, the executor at the start of a run, and the finished run.
-use Rattle.std.specs.Prelude.{ℕ, suc, ◌+◌, ◌^◌, Bool, true, false, cond, List, [], ◌∷◌, ◌++◌, length, ℤ, is_some, Some, None, codes, Option, ◌==◌, nat_lt}
+use Rattle.std.specs.Prelude.{ℕ, suc, ◌+◌, ◌^◌, Bool, true, cond, List, [], ◌∷◌, length, ℤ, is_some, Some, None, codes, Option, ◌==◌, nat_lt}
 use Rattle.std.specs.Option.{option_map}
 use Rattle.keyed.specs.Choices.{given}
 use Rattle.entry.specs.declared.Entry.{Entry}

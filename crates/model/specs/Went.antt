@@ -1,13 +1,13 @@
 -- What it is for a run to have gone by a history: the rules of a round, and nothing else, lead from the executor at the start
 -- to the one at the end.
-use Rattle.std.specs.Prelude.{◌≡◌, ℕ, ◌+◌, ◌^◌, ◌<◌, ◌≤◌, Bool, true, false, List, [], ◌∷◌, ◌++◌, map, length, Some, None, Option}
+use Rattle.std.specs.Prelude.{◌≡◌, ℕ, ◌+◌, ◌^◌, ◌<◌, ◌≤◌, true, false, List, [], ◌∷◌, ◌++◌, map, length, Some, None, Option}
 use Rattle.reasons.specs.declared.ending.Ending.TheVariants as ending
 use Rattle.alarms.specs.declared.Alarm.{Alarm}
 use Rattle.alarms.specs.Laws.{due}
 use Rattle.arrange.specs.Order.{Order, asked}
 use Rattle.model.specs.Model.{Task, Model, free, task_at}
 use Rattle.model.specs.Moves.{after_doing}
-use Rattle.model.specs.Calls.{Call, apply, doings_of}
+use Rattle.model.specs.Calls.{apply, doings_of}
 use Rattle.model.specs.Ending.{ending_of}
 use Rattle.model.specs.Rules.{Turn}
 use Rattle.model.specs.Run.{Finish, faulted, timed_out, stalled, clock_spent, ledger_spent, opened, skipped, polled, called, settle, finish_of, ticked, leapt_to, rung, completed, ended}

@@ -1,5 +1,5 @@
 -- What is below is aborted and marked.
-use Rattle.std.proofs.Common.{◌≡◌, sym, ap, ◌∙◌}
+use Rattle.std.proofs.Common.{◌∙◌}
 use Rattle.supervision.specs.Calls as supervision
 use Rattle.tasks.specs.Task.{task_view}
 use Rattle.state.specs.View.{view}

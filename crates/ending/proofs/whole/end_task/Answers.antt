@@ -1,5 +1,5 @@
 -- The steps have room, and are the end of the task.
-use Rattle.std.proofs.Common.{◌≡◌, ℕ, length, ap, ◌∙◌, arith}
+use Rattle.std.proofs.Common.{◌≡◌, length, ap, ◌∙◌, arith}
 use Rattle.state.specs.View.{view}
 use Rattle.model.specs.Model.{Model, Registry, free}
 use Rattle.model.specs.Bounds.{unmarked}
