@@ -61,7 +61,7 @@ fn start(rt: &HostRuntime) -> anyhow::Result<()> {
     }
 }
 
-// What fails is told before, so its error sets the status alone.
+// What is to be told is told before; an error sets the status alone.
 fn main(rt: HostRuntime) -> ExitCode {
     match start(&rt) {
         Ok(()) => ExitCode::SUCCESS,
