@@ -1,5 +1,5 @@
 -- Ringing order, and what an arming keeps of it.
-use Rattle.std.proofs.Common.{◌≡◌, ℕ, ◌+◌, ◌<◌, ◌≤◌, Bool, true, cond, not, ◌&&◌, ◌||◌, eqb, ltb, leb, ◌⊎◌, List, [], ◌∷◌, sym, refl, ap, ◌∙◌, inl, inr, ⊎_elim, arith}
+use Rattle.std.proofs.Common.{◌≡◌, ℕ, ◌+◌, ◌<◌, ◌≤◌, Bool, true, not, ◌&&◌, ◌||◌, eqb, ltb, leb, ◌⊎◌, List, [], ◌∷◌, sym, refl, ap, ◌∙◌, inl, inr, ⊎_elim, arith}
 use Rattle.std.specs.List.{AllByRecursion}
 use Rattle.std.proofs.lemmas.Bool.Decides.{nat_tests}
 use Rattle.std.proofs.lemmas.Bool.{and_parts, and_from, leb-true, leb-false, ltb-true, lt-ltb, eqb-false, ne_eqb, not-true, not_from_false, cond_both}
@@ -126,10 +126,6 @@ ordered_placed a (b ∷ bs) o =
 pub ordered_below : (next : ℕ) (bs : List Alarm) → ordered next bs ≡ true → AllByRecursion (λ b. b.serial < next) bs
 ordered_below next [] o = tt
 ordered_below next (b ∷ bs) o = let f = first_of next b bs o in (f.low, ordered_below next bs f.rest)
-
--- the same of what an insertion left
-pub ordered_inserted : (a : Alarm) (xs ys zs : List Alarm) (ok : Bool) → ordered a.serial xs ≡ true → ok ≡ true → zs ≡ placed a xs → ys ≡ cond ok zs xs → ordered (a.serial + 1) ys ≡ true
-ordered_inserted a xs ys zs ok o done is left = rw (left ∙ (rw done refl ∙ is)) (ordered_placed a xs o)
 
 -- an added alarm's serial is new
 pub rises_added : (task time serial : ℕ) (B C : Bells) → ordered B.next B.alarms ≡ true → serial ≡ B.next → C ≡ added task time B → Rises B C serial

@@ -1,31 +1,29 @@
--- The search for an alarm's place, over the slice ys that is the list xs.
-use Rattle.std.proofs.Common.{◌≡◌, ℕ, ◌+◌, ◌<◌, ◌≤◌, true, false, ltb, List, [], ◌∷◌, ◌++◌, length, get_or, take, drop, sym, refl, ap, ◌∙◌, arith}
-use Rattle.std.proofs.lemmas.List.{drop_more, take_more, drop_all, take_all, append_assoc}
-use Rattle.std.proofs.lemmas.Bool.{le-leb, lt-leb, ltb-true, ltb-false}
+-- The place of a new alarm among those that stand in ringing order.
+use Rattle.std.proofs.Common.{◌≡◌, ℕ, zero, suc, ◌<◌, ◌≤◌, true, false, leb, List, [], ◌∷◌, ◌++◌, length, get_or, take, drop, refl, ap, arith}
+use Rattle.std.specs.List.Sorted.{IsPartitionPoint}
+use Rattle.std.proofs.lemmas.Bool.{and_parts}
 use Rattle.alarms.specs.declared.Alarm.{Alarm}
+use Rattle.alarms.specs.Order.{before, leads, ordered}
 use Rattle.alarms.specs.Model.{placed}
+use Rattle.alarms.proofs.Orders.{first_of, before_time}
 
-module _ (a : Alarm) (xs : List Alarm) (i : ℕ) (so_far : take i xs ++ placed a (drop i xs) ≡ placed a xs) where
-  module _ (ys : List Alarm) (same : ys ≡ xs) (d : Alarm) (within : i < length ys) where
-    pub placed_here : true ≡ ltb a.time (get_or ys i d).time → take i xs ++ a ∷ drop i xs ≡ placed a xs
-    placed_here overtakes =
-        let earlier = ltb-true a.time (get_or ys i d).time (sym overtakes) in
-        let behind : placed a (drop i ys) ≡ a ∷ drop i ys = rw (drop_more ys i d within) (rw (lt-leb (get_or ys i d).time a.time earlier) refl) in
-        ap (λ (l : List Alarm). take i xs ++ l) (sym (rw same at behind)) ∙ so_far
+leads_at : (a : Alarm) (bs : List Alarm) (j : ℕ) (d : Alarm) → leads a bs ≡ true → j < length bs → a.time ≤ (get_or bs j d).time
+leads_at a [] j d l h = absurd (omega arith)
+leads_at a (b ∷ bs) zero d l h = before_time a b (and_parts (before a b) (leads a bs) l).0
+leads_at a (b ∷ bs) (suc j) d l h = leads_at a bs j d (and_parts (before a b) (leads a bs) l).1 (omega arith)
 
-    pub placed_more : false ≡ ltb a.time (get_or ys i d).time → take (i + 1) xs ++ placed a (drop (i + 1) xs) ≡ placed a xs
-    placed_more behind =
-        let later = ltb-false a.time (get_or ys i d).time (sym behind) in
-        let step : placed a (drop i ys) ≡ get_or ys i d ∷ placed a (drop (i + 1) ys) = ap (placed a) (drop_more ys i d within) ∙ rw (le-leb (get_or ys i d).time a.time later) refl in
-        let moved : take (i + 1) ys ++ placed a (drop (i + 1) ys) ≡ take i ys ++ placed a (drop i ys) =
-        ap (λ (l : List Alarm). l ++ placed a (drop (i + 1) ys)) (take_more ys i d within)
-        ∙ (append_assoc (take i ys) (get_or ys i d ∷ []) (placed a (drop (i + 1) ys))
-        ∙ ap (λ (l : List Alarm). take i ys ++ l) (sym step)) in
-        rw same at moved ∙ so_far
+-- the times do not fall from place to place
+pub times_rise : (next : ℕ) (xs : List Alarm) → ordered next xs ≡ true → (i j : ℕ) (d : Alarm) → i ≤ j → j < length xs → (get_or xs i d).time ≤ (get_or xs j d).time
+times_rise next [] o i j d le h = absurd (omega arith)
+times_rise next (x ∷ xs) o zero zero d le h = omega arith
+times_rise next (x ∷ xs) o zero (suc j) d le h = leads_at x xs j d (first_of next x xs o).leading (omega arith)
+times_rise next (x ∷ xs) o (suc i) zero d le h = absurd (omega arith)
+times_rise next (x ∷ xs) o (suc i) (suc j) d le h = times_rise next xs (first_of next x xs o).rest i j d (omega arith) (omega arith)
 
-  pub placed_last : (n : ℕ) → n ≡ length xs → length xs ≤ i → take n xs ++ a ∷ drop n xs ≡ placed a xs
-  placed_last n is past =
-      let front : take n xs ≡ take i xs = take_all n xs (omega arith) ∙ sym (take_all i xs past) in
-      let none : drop n xs ≡ drop i xs = drop_all n xs (omega arith) ∙ sym (drop_all i xs past) in
-      let last : placed a (drop i xs) ≡ a ∷ drop i xs = rw (drop_all i xs past) refl in
-      rw (front, none) (ap (λ (l : List Alarm). take i xs ++ l) (sym last) ∙ so_far)
+-- behind those that are earlier or as early, and before the later ones, is the place of an alarm
+pub placed_at : (a : Alarm) (xs : List Alarm) (i : ℕ) → IsPartitionPoint (λ b. leb b.time a.time ≡ true) (λ b. leb b.time a.time ≡ false) xs i → i ≤ length xs → take i xs ++ a ∷ drop i xs ≡ placed a xs
+placed_at a [] zero p h = refl
+placed_at a [] (suc i) p h = absurd (omega arith)
+placed_at a (b ∷ bs) zero p h = rw (p.1 0 a (omega arith) (omega arith)) refl
+placed_at a (b ∷ bs) (suc i) p h =
+    rw (p.0 0 a (omega arith) (omega arith)) (ap (λ (l : List Alarm). b ∷ l) (placed_at a bs i (λ k d l m. p.0 (suc k) d (omega arith) (omega arith), λ k d l m. p.1 (suc k) d (omega arith) (omega arith)) (omega arith)))

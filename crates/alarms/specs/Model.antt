@@ -1,6 +1,7 @@
 -- What alarms stand for, and what each call makes of it and answers.
-use Rattle.std.specs.Prelude.{ℕ, ◌+◌, Bool, false, cond, ◌&&◌, List, [], ◌∷◌, length, Some, None, Ok, Err, vec_items, Option, Result, ◌==◌, nat_le, nat_lt}
+use Rattle.std.specs.Prelude.{ℕ, ◌+◌, Bool, false, cond, ◌&&◌, List, [], ◌∷◌, length, Some, None, Ok, Err, Option, Result, ◌==◌, nat_le, nat_lt}
 use Rattle.keyed.specs.Members.{first}
+use Rattle.reserved.specs.Held.{held}
 use Rattle.alarms.specs.declared.Alarm.{Alarm}
 use Rattle.alarms.specs.declared.Alarms.{Alarms}
 use Rattle.alarms.specs.declared.Full.{Full}
@@ -13,7 +14,7 @@ pub record Bells : Type 0 where
 
 -- the alarms that a value holds, first to ring first
 abbrev pub view : Alarms → Bells
-view s = record { alarms = vec_items s.standing; next = s.next }
+view s = record { alarms = held s.standing; next = s.next }
 
 -- no alarm stands, and the first arming gets serial 0
 abbrev pub silent : Bells

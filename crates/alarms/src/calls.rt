@@ -1,34 +1,18 @@
 // What the executor does with alarms.
-ghost use Rattle.std.specs.Prelude.{◌≡◌, ◌+◌, ◌^◌, ◌<◌, ◌≤◌, ◌∷◌, ◌++◌, length, take, drop, IfOk, vec_len, vec_capacity, nat_lt};
-ghost use Rattle.alarms.specs.Order.{most_alarms};
-ghost use Rattle.alarms.specs.Model.{view, silent, placed, added, armed, arm_answer, earliest, first_due, rung, has_serial, found, is_for};
+ghost use Rattle.std.specs.Prelude.{◌≡◌, ◌+◌, ◌^◌, ◌<◌, ◌≤◌, ◌∷◌, ◌++◌, length, take, drop, IfOk};
+ghost use Rattle.alarms.specs.Model.{view, silent, placed, armed, arm_answer, earliest, first_due, rung, found, is_for};
 ghost use Rattle.alarms.specs.Laws.{Arms, Earliest, Rings, WholeRinging, Finds};
 
 use crate::{Alarm, Alarms, Full, MOST_ALARMS};
+use reserved::Reserved;
 use std::alloc::{AllocError, Global};
-
-impl Alarm {
-    // Whether a new alarm rings before one that stands. At equal times it does not: that one was armed first.
-    fn overtakes(&self, other: &Alarm) -> bool
-        ensures { result ≡ nat_lt self.now.time other.now.time }
-    {
-        self.time < other.time
-    }
-
-    // Whether this is the alarm that got the serial at its arming.
-    fn has_serial(&self, serial: u64) -> bool
-        ensures { result ≡ has_serial serial self.now }
-    {
-        self.serial == serial
-    }
-}
 
 impl Alarms {
     // No alarm yet, with the memory for MOST_ALARMS of them.
     pub fn new(heap: Global) -> Result<Alarms, AllocError>
         ensures made { IfOk result (λ s. view s ≡ silent) }
     {
-        let standing = Vec::with_capacity(heap, MOST_ALARMS)?;
+        let standing = Reserved::new(heap)?;
         Ok(Alarms { standing, next: 0 })
     }
 
@@ -39,32 +23,14 @@ impl Alarms {
         self.standing.len()
     }
 
-    // The place behind every alarm that the new one does not overtake.
+    // The place behind every alarm that the new one does not overtake: at equal times the other was armed first.
     fn place(&self, alarm: Alarm) -> usize
-        ensures within { result ≤ vec_len self.now.standing }
-        ensures value { take result self.now.standing.items ++ alarm ∷ drop result self.now.standing.items ≡ placed alarm self.now.standing.items }
+        ensures within { result ≤ length (view self.now).alarms }
+        ensures value { take result (view self.now).alarms ++ alarm ∷ drop result (view self.now).alarms ≡ placed alarm (view self.now).alarms }
     {
-        for (i, other) in self.standing.iter().enumerate() {
-            if alarm.overtakes(other) {
-                return i;
-            }
-        }
-        self.count()
-    }
-
-    // Places a new alarm under the next serial.
-    fn add(&mut self, task: u64, time: u64) -> u64
-        requires few { vec_len self.old.standing < most_alarms }
-        requires serials { self.old.next + 1 < 2 ^ 64 }
-        ensures answer { result ≡ (view self.old).next }
-        ensures state { view self.new ≡ added task time (view self.old) }
-    {
-        let serial = self.next;
-        let alarm = Alarm { time, serial, task };
-        let at = self.place(alarm);
-        let _ = self.standing.insert(at, alarm);
-        self.next = serial + 1;
-        serial
+        self.standing
+            .as_slice()
+            .partition_point(|other| other.time <= alarm.time)
     }
 
     // Arms an alarm for a task at a time and answers its serial, or refuses while MOST_ALARMS stand.
@@ -77,17 +43,12 @@ impl Alarms {
         if self.count() >= MOST_ALARMS {
             return Err(Full);
         }
-        Ok(self.add(task, time))
-    }
-
-    // The time of the next alarm to ring.
-    fn first_time(&self) -> Option<u64>
-        ensures { result ≡ earliest (view self.now).alarms }
-    {
-        match self.standing.first() {
-            Some(alarm) => Some(alarm.time),
-            None => None,
-        }
+        let serial = self.next;
+        let alarm = Alarm { time, serial, task };
+        let at = self.place(alarm);
+        self.standing.insert(at, alarm);
+        self.next = serial + 1;
+        Ok(serial)
     }
 
     // The earliest time at which an alarm stands.
@@ -95,18 +56,7 @@ impl Alarms {
         ensures answer { result ≡ earliest (view self.now).alarms }
         ensures least { Earliest (view self.now).alarms result }
     {
-        self.first_time()
-    }
-
-    // Takes the next alarm to ring, if the clock has reached it.
-    fn take_due(&mut self, clock: u64) -> Option<Alarm>
-        ensures answer { result ≡ first_due clock (view self.old).alarms }
-        ensures state { view self.new ≡ rung clock (view self.old) }
-    {
-        match self.first_time() {
-            Some(time) if time <= clock => Some(self.standing.remove(0)),
-            _ => None,
-        }
+        self.standing.as_slice().first().map(|alarm| alarm.time)
     }
 
     // Takes the next alarm to ring, if the clock has reached it: called until it answers none, it rings all that are due.
@@ -116,7 +66,10 @@ impl Alarms {
         ensures first { Rings clock (view self.old).alarms (view self.new).alarms result }
         ensures whole { WholeRinging clock (view self.old).alarms }
     {
-        self.take_due(clock)
+        match self.earliest() {
+            Some(time) if time <= clock => Some(self.standing.remove(0)),
+            _ => None,
+        }
     }
 
     // The alarm with this serial, if it stands.
@@ -124,21 +77,18 @@ impl Alarms {
         ensures answer { result ≡ found serial (view self.now).alarms }
         ensures stands { Finds serial (view self.now).alarms result }
     {
-        for alarm in self.standing.iter() {
-            if alarm.has_serial(serial) {
-                return Some(*alarm);
-            }
-        }
-        None
+        self.standing
+            .as_slice()
+            .iter()
+            .find(|alarm| alarm.serial == serial)
+            .copied()
     }
 
     // Whether the serial is that of a standing alarm of this task for this time.
     pub fn stands(&self, serial: u64, task: u64, time: u64) -> bool
         ensures { result ≡ is_for task time (found serial (view self.now).alarms) }
     {
-        match self.find(serial) {
-            Some(alarm) => alarm.task == task && alarm.time == time,
-            None => false,
-        }
+        self.find(serial)
+            .is_some_and(|alarm| alarm.task == task && alarm.time == time)
     }
 }

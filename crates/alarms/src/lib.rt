@@ -1,8 +1,11 @@
 // The alarms of sleeping tasks, in the order in which they ring.
 #![tactic(auto)]
 
-ghost use Rattle.std.specs.Prelude.{◌≡◌, ◌≤◌, true, vec_len, vec_capacity};
-ghost use Rattle.alarms.specs.Order.{ordered, most_alarms};
+ghost use Rattle.std.specs.Prelude.{◌≡◌, true};
+ghost use Rattle.reserved.specs.Held.{held};
+ghost use Rattle.alarms.specs.Order.{ordered};
+
+use reserved::Reserved;
 
 mod calls;
 
@@ -11,7 +14,7 @@ pub const MOST_ALARMS: usize = 128;
 
 // A task's wish to be queued when the clock reaches a time, in nanoseconds since the Unix epoch.
 // Serials count armings from 0, so that of two alarms for one time the lower serial was armed first.
-#[derive(Clone, Copy)]
+#[derive(Clone, Copy, PartialEq, Eq, Debug)]
 pub struct Alarm {
     pub time: u64,
     pub serial: u64,
@@ -19,16 +22,13 @@ pub struct Alarm {
 }
 
 // The refusal of an alarm while MOST_ALARMS stand.
-#[derive(Clone, Copy)]
+#[derive(Clone, Copy, PartialEq, Eq, Debug)]
 pub struct Full;
 
 // The alarms that stand, the next to ring first, and the serial of the next arming.
-// The memory for all of them is reserved when it is made.
 #[derive(Drop)]
 pub struct Alarms {
-    standing: Vec<Alarm>,
+    standing: Reserved<Alarm, MOST_ALARMS>,
     next: u64,
-    ghost room: { most_alarms ≤ vec_capacity standing },
-    ghost few: { vec_len standing ≤ most_alarms },
-    ghost order: { ordered next standing.items ≡ true },
+    ghost order: { ordered next (held standing) ≡ true },
 }

@@ -13,10 +13,7 @@ mod tests {
     fn rung(alarms: &mut Alarms, clock: u64) -> u64
         ensures { (view alarms.new).next ≡ (view alarms.old).next }
     {
-        match alarms.ring(clock) {
-            Some(alarm) => alarm.task,
-            None => 0,
-        }
+        alarms.ring(clock).map_or(0, |alarm| alarm.task)
     }
 
     #[test]

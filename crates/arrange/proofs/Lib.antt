@@ -1,4 +1,2 @@
 -- Lemmas on shuffled lists. Assumes nothing.
-pub mod Decks
-pub mod Often
 pub mod Reach

@@ -1,41 +1,23 @@
 -- Every order can come: the last id is drawn from where it stands, and the ids before it are reached likewise. Assumes nothing.
-use Rattle.std.proofs.Common.{◌≡◌, ℕ, zero, suc, ◌+◌, ◌-◌, ◌%◌, ◌<◌, Bool, true, cond, eqb, List, [], ◌∷◌, ◌++◌, length, get_or, take, set, count_by, sym, refl, ap, ◌∙◌, ⊎_elim, mod-lt, mod-eq_of_lt, arith}
+use Rattle.std.proofs.Common.{◌≡◌, ℕ, zero, suc, ◌+◌, ◌-◌, ◌%◌, ◌<◌, Bool, true, cond, eqb, List, [], ◌∷◌, ◌++◌, length, get_or, take, count_by, sym, refl, ap, ◌∙◌, ⊎_elim, mod-lt, mod-eq_of_lt, arith}
 use Rattle.std.specs.List.{swap, AllByRecursion}
-use Rattle.std.specs.List.Sorted.{IsPermutation}
 use Rattle.std.proofs.ByRecursion.{All-weaker}
-use Rattle.std.proofs.lemmas.List.{get_or_append_left, get_or_default, get_or-set_other, get_or-set_same, length-set, length-take-le, nil_from_length, set-append_left, take_all, take_more}
-use Rattle.std.proofs.lemmas.List.Sorted.{length_permutation}
+use Rattle.std.proofs.lemmas.List.{get_or_append_left, length-set, length-take-le, nil_from_length, set-append_left, take_all, take_more}
+use Rattle.std.proofs.lemmas.List.Edits.{length-swap, swapped_from_swap}
+use Rattle.std.proofs.lemmas.List.Recursion.{is_count_by}
+use Rattle.std.proofs.lemmas.List.Sorted.{IsPermutation-swap, sum_by-IsPermutation}
 use Rattle.std.proofs.lemmas.List.Sums.{sum_by-cons, sum_by_push}
-use Rattle.std.proofs.lemmas.Bool.{cases_Bool, cases_eq, cond-false, cond-true, eq-eqb, eqb-true}
+use Rattle.std.proofs.lemmas.Bool.{cases_Bool, cond-false, cond-true, eq-eqb, eqb-true}
 use Rattle.arrange.specs.Deck.{deck, swaps}
 use Rattle.arrange.specs.Draws.{Drawn}
 use Rattle.arrange.specs.Order.{EquallyOften}
 use Rattle.arrange.specs.Reach.{EveryOrder}
 use Rattle.arrange.specs.Tape.{tape_rule}
-use Rattle.arrange.proofs.Often.{often_shuffled}
 
 -- an exchange of places in the front leaves what follows
 exchanged_front : {T : Type 0} (xs zs : List T) (a b : ℕ) → a < length xs → b < length xs → swap (xs ++ zs) a b ≡ swap xs a b ++ zs
 exchanged_front [] zs a b h k = absurd (omega arith)
-exchanged_front {T} (d ∷ l) zs a b h k =
-    let xs : List T = d ∷ l in
-    (λ i. set (set (xs ++ zs) a (get_or_append_left xs zs d b k i)) b (get_or_append_left xs zs d a h i))
-    ∙ ap (λ (m : List T). set m b (get_or xs a d)) (set-append_left xs zs a (get_or xs b d) h)
-    ∙ set-append_left (set xs a (get_or xs b d)) zs b (get_or xs a d) (omega (arith, length-set xs a (get_or xs b d)))
-
-exchanged_at : (xs : List ℕ) (n j : ℕ) → n < length xs → j < length xs → get_or (swap xs n j) n 0 ≡ get_or xs j 0
-exchanged_at [] n j h k = absurd (omega arith)
-exchanged_at (d ∷ l) n j h k =
-    let xs : List ℕ = d ∷ l in
-    let one : List ℕ = set xs n (get_or xs j d) in
-    ⊎_elim
-    (λ (e : n ≡ j).
-    ap (λ m. get_or (set one j (get_or xs n d)) m 0) e ∙ get_or-set_same one j (get_or xs n d) 0 (omega (arith, length-set xs n (get_or xs j d))) ∙ ap (λ m. get_or xs m d) e ∙ get_or_default xs j d 0 k)
-    (λ (e : n ≡ j → ⊥). get_or-set_other one j n (get_or xs n d) 0 e ∙ get_or-set_same xs n (get_or xs j d) 0 h ∙ get_or_default xs j d 0 k)
-    (cases_eq n j)
-
-exchanged_same : (xs : List ℕ) (a b : ℕ) → a < length xs → b < length xs → IsPermutation xs (swap xs a b)
-exchanged_same xs a b h k = record { moves = (a, b) ∷ []; below = (h, k, tt); is = refl }
+exchanged_front {T} (d ∷ l) zs a b h k = grind (arith, get_or_append_left {A = T}, set-append_left {A = T}, length-set {A = T})
 
 -- the swaps in the front leave what follows
 swaps_front : {V T : Type 0} (rule : V → Drawn V) (i : ℕ) (v : V) (xs zs : List T) → i < length xs → (swaps rule i (deck v (xs ++ zs))).items ≡ (swaps rule i (deck v xs)).items ++ zs
@@ -44,7 +26,7 @@ swaps_front {V} {T} rule (suc i) v xs zs h =
     let k = (rule v).draw % (suc i + 1) in
     let low : k < suc i + 1 = mod-lt (rule v).draw (omega arith) in
     let in' : k < length xs = omega arith in
-    let long : length (swap xs (suc i) k) ≡ length xs = length_permutation xs (swap xs (suc i) k) (record { moves = (suc i, k) ∷ []; below = (h, in', tt); is = refl }) in
+    let long = length-swap xs (suc i) k in
     ap (λ (m : List T). (swaps rule i (deck (rule v).value m)).items) (exchanged_front xs zs (suc i) k h in')
     ∙ swaps_front rule i (rule v).value (swap xs (suc i) k) zs (omega (arith, long))
 
@@ -87,13 +69,13 @@ drawn : (xs ys : List ℕ) (i j : ℕ) → length xs ≡ suc i + 1 → j < lengt
 drawn xs ys i j lx k e =
     let h : suc i < length xs = omega arith in
     let one : List ℕ = swap xs (suc i) j in
-    let same = exchanged_same xs (suc i) j h k in
-    let all : length one ≡ suc i + 1 = length_permutation xs one same ∙ lx in
+    let same : EquallyOften xs one = λ test. sum_by-IsPermutation (λ x. cond (test x) 1 0) xs one (IsPermutation-swap xs one (suc i) j h k refl) in
+    let all : length one ≡ suc i + 1 = length-swap xs (suc i) j ∙ lx in
     let front : length (take (suc i) one) ≡ i + 1 = omega (arith, length-take-le (suc i) one (omega (arith, all))) in
-    let last : get_or one (suc i) 0 ≡ get_or ys (suc i) 0 = exchanged_at xs (suc i) j h k ∙ e in
+    let last : get_or one (suc i) 0 ≡ get_or ys (suc i) 0 = (swapped_from_swap xs one (suc i) j 0 h k refl).0 ∙ e in
     record {
       long = front;
-      before = λ ly often. often_before one ys (suc i) all ly last (λ test. often test ∙ sym (often_shuffled xs one same test));
+      before = λ ly often. often_before one ys (suc i) all ly last (λ test. often test ∙ sym (same test));
       after = λ ly ds is.
           let go = λ (l : List ℕ). (swaps tape_rule i (deck ds l)).items in
           ap (λ m. go (swap xs (suc i) m)) (mod-eq_of_lt (omega arith))
@@ -129,8 +111,7 @@ swapped_to (suc i) xs ys lx ly often =
     }
 
 count_all : (xs : List ℕ) → count_by (λ _. true) xs ≡ length xs
-count_all [] = refl
-count_all (x ∷ xs) = sum_by-cons (λ _. 1) x xs ∙ omega (arith, count_all xs)
+count_all xs = sym (is_count_by length (λ _. true) refl (λ x xs. omega arith) xs)
 
 pub every_order : EveryOrder
 every_order [] ys often = record { draws = []; low = tt; is = sym (nil_from_length ys (sym (count_all ys) ∙ often (λ _. true))) }

@@ -1,8 +1,8 @@
 -- The shuffle as an arranger's rule. A rule carries its law, so the law's proof stands here. Assumes nothing.
-use Rattle.std.specs.Prelude.{ℕ, zero, suc, ◌+◌, ◌-◌, ◌%◌, ◌<◌, List, [], ◌∷◌, length, refl}
+use Rattle.std.specs.Prelude.{ℕ, zero, suc, ◌+◌, ◌-◌, ◌%◌, ◌<◌, List, length, refl}
 use Rattle.std.proofs.Common.{mod-lt, arith}
 use Rattle.std.specs.List.Sorted.{IsPermutation}
-use Rattle.std.proofs.lemmas.List.Sorted.{IsPermutation-refl, IsPermutation-trans, length_permutation}
+use Rattle.std.proofs.lemmas.List.Sorted.{IsPermutation-refl, IsPermutation-swap, IsPermutation-trans, length_permutation}
 use Rattle.arrange.specs.Deck.{Deck, deck, swapped, swaps, shuffled}
 use Rattle.arrange.specs.Draws.{Drawn}
 use Rattle.arrange.specs.Order.{Order}
@@ -13,7 +13,7 @@ module _ {V T : Type 0} (rule : V → Drawn V) where
   swapped_same i d h =
       let j = (rule d.value).draw % (i + 1) in
       let low : j < i + 1 = mod-lt (rule d.value).draw (omega arith) in
-      record { moves = (i, j) ∷ []; below = (h, omega arith, tt); is = refl }
+      IsPermutation-swap d.items (swapped rule i d).items i j h (omega arith) refl
 
   -- and so do the swaps from a place on down
   swaps_same : (i : ℕ) (d : Deck V T) → (0 < i → i < length d.items) → IsPermutation d.items (swaps rule i d).items

@@ -83,7 +83,7 @@ mod tests {
         Ok(())
     }
 
-    #[derive(Drop)]
+    #[derive(PartialEq, Debug, Drop)]
     struct Queued {
         id: u64,
         class: u8,
@@ -94,8 +94,10 @@ mod tests {
         let mut source = Tape::new(vec![in rt.alloc(); 0]?);
         let mut records = [Queued { id: 4, class: 1 }, Queued { id: 5, class: 2 }];
         fisher_yates::shuffle(&mut records, &mut source);
-        assert_eq!(rt; [records[0].id, records[1].id], [5, 4]);
-        assert_eq!(rt; [records[0].class, records[1].class], [2, 1]);
+        assert_eq!(rt;
+            records,
+            [Queued { id: 5, class: 2 }, Queued { id: 4, class: 1 }]
+        );
         Ok(())
     }
 }

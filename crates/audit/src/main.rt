@@ -55,10 +55,7 @@ fn start(rt: &HostRuntime) -> anyhow::Result<()> {
         eprintln!(rt; "{USAGE}")?;
         return Err(anyhow!("too many arguments"));
     }
-    match &name {
-        Some(path) => run(rt, Some(path.as_str())),
-        None => run(rt, None),
-    }
+    run(rt, name.as_deref())
 }
 
 // What is to be told is told before; an error sets the status alone.

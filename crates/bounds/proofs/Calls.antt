@@ -3,13 +3,13 @@ use Rattle.std.proofs.Common.{ℕ, ◌+◌, ◌||◌, ltb, leb, List, length, Op
 use Rattle.std.proofs.lemmas.Bool.{ltb-true}
 use Rattle.lineage.specs.Family.{open_for, aborted_at, node_free}
 use Rattle.lineage.specs.Births.{link_free}
-use Rattle.model.specs.declared.refusal.Refusal.{Refusal}
-use Rattle.model.specs.declared.refusal.Refusal.TheVariants as refusal
-use Rattle.model.specs.Model.{Model}
-use Rattle.model.specs.Moves.{moves}
-use Rattle.model.specs.Refusals.{caller}
-use Rattle.model.specs.Calls.{Call, current, child, close, links, spawn, sleep, sleep_until, wake, abort, stop, stopped, signal, completed, let_go, doings_by, after}
-use Rattle.model.specs.Bounds.{Sound, Calm, Spare}
+use Rattle.deterministic.specs.declared.refusal.Refusal.{Refusal}
+use Rattle.deterministic.specs.declared.refusal.Refusal.TheVariants as refusal
+use Rattle.deterministic.specs.Model.{Model}
+use Rattle.deterministic.specs.Moves.{moves}
+use Rattle.deterministic.specs.Refusals.{caller}
+use Rattle.deterministic.specs.Calls.{Call, current, child, close, links, spawn, sleep, sleep_until, wake, abort, stop, stopped, signal, completed, let_go, doings_by, after}
+use Rattle.deterministic.specs.Bounds.{Sound, Calm, Spare}
 use Rattle.bounds.specs.Kept.{Bounded}
 use Rattle.bounds.proofs.Refused.{either, unless_else, unless_alone, where_else, granted_else, granted_alone, room_else, room_alone}
 use Rattle.bounds.proofs.Grants as keeps

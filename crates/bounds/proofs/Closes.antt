@@ -10,14 +10,14 @@ use Rattle.ledger.specs.Book.{empty, right_size}
 use Rattle.alarms.specs.declared.Alarm.{Alarm}
 use Rattle.alarms.specs.Laws.{due, later}
 use Rattle.signal.specs.Model.{has_stopped, complete}
-use Rattle.model.specs.declared.clock.Clock.{Clock}
-use Rattle.model.specs.Model.{Model, with_clock, with_alarms, free, noted, queued, at_time}
-use Rattle.model.specs.Run.{ticked, jump, leapt, leapt_to, ringing, standing, rung, completed}
-use Rattle.model.specs.Start.{idle_at}
-use Rattle.model.specs.Bounds.{Sound, Calm, unmarked, open_contexts}
+use Rattle.ledger.proofs.Books.{free_written}
+use Rattle.deterministic.specs.declared.clock.Clock.{Clock}
+use Rattle.deterministic.specs.Model.{Model, with_clock, with_alarms, free, noted, queued, at_time}
+use Rattle.deterministic.specs.Run.{ticked, jump, leapt, leapt_to, ringing, standing, rung, completed}
+use Rattle.deterministic.specs.Start.{idle_at}
+use Rattle.deterministic.specs.Bounds.{Sound, Calm, unmarked, open_contexts}
 use Rattle.bounds.specs.Kept.{Closes, Starts}
 use Rattle.bounds.proofs.Numbers.{cond_most}
-use Rattle.bounds.proofs.Lists.{rest_length}
 use Rattle.bounds.proofs.Held.{Held, all, held, sound, held_noted, held_clock, held_queued}
 
 -- n follows m by steps of a close that queue some ids and write some entries, and count no round
@@ -34,7 +34,7 @@ at : (t : ℕ) (e : Entry) (m : Model) → Held all m → 0 < free m → Moved 0
 at t e m h room = record {
   stands = held_noted all (with_clock (at_time t m.clock) m) (held_clock all m h (at_time t m.clock)) e room;
   waiting = omega arith;
-  wrote = rest_length m.ledger.blank room;
+  wrote = free_written e m.ledger room;
   longer = length_push m.ledger.log e;
   counted = refl;
   alarms = refl;
@@ -64,7 +64,7 @@ rings [] m h room = record { stands = h; waiting = omega arith; wrote = omega ar
 rings (a ∷ l) m h room =
     let e : Entry = entry.Ring a.task a.time in
     let next : Model = queued a.task e m in
-    let fewer = rest_length m.ledger.blank (omega arith) in
+    let fewer = free_written e m.ledger (omega arith) in
     let more = length_push m.queues.waiting a.task in
     let longer = length_push m.ledger.log e in
     let rest = rings l next (held_queued all m h a.task e (omega arith)) (omega arith) in
@@ -123,7 +123,7 @@ starts clock caught memory right =
     let p = and_parts (leb 1024 (length memory)) (leb (length memory) 65536) right in
     let least = leb-true 1024 (length memory) p.0 in
     let most = leb-true (length memory) 65536 p.1 in
-    let fewer = rest_length memory (omega arith) in
+    let fewer = free_written (entry.Reg 0) (empty memory) (omega arith) in
     record {
       sound = record { listed = refl; list_next = refl; few = omega arith; seated = λ k le. refl; numbered = omega (arith, fewer) };
       calm = omega arith;

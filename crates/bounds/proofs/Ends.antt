@@ -14,15 +14,17 @@ use Rattle.lineage.specs.Cascade.{cascaded}
 use Rattle.supervision.specs.Calls.{closed_all}
 use Rattle.signal.specs.Model.{Stops, ended, completion_wakes}
 use Rattle.growth.proofs.Growth.{closed_all_next, closed_all_opens, closed_all_seats, left_next, left_opens, left_seats, cascaded_next, cascaded_opens, cascaded_seats}
-use Rattle.model.specs.Model.{Task, Model, with_tree, free, id_of, task_at, one_not_running}
-use Rattle.model.specs.Moves.{Move, wake, mark, leave, quiet, tally, signals, keep, move, moves, Doing, ◌then◌, after_doing}
-use Rattle.model.specs.Calls.{marking, marking_task}
-use Rattle.model.specs.Ending.{contexts_close, signal_goes, fault_stays, fault_kept, others, markings, cascading, cascade_of, cascade, stops_running, ending_of}
-use Rattle.model.specs.Bounds.{Sound, Calm, by_fault}
-use Rattle.model.proofs.Doings.{after_then}
+use Rattle.ledger.proofs.Books.{free_written}
+use Rattle.deterministic.specs.Model.{Task, Model, with_tree, free, id_of, task_at, one_not_running}
+use Rattle.deterministic.specs.Moves.{Move, wake, mark, leave, quiet, tally, signals, keep, move, moves, Doing, ◌then◌, after_doing}
+use Rattle.deterministic.specs.Calls.{marking, marking_task}
+use Rattle.deterministic.specs.Ending.{contexts_close, signal_goes, fault_stays, fault_kept, others, markings, cascading, cascade_of, cascade, stops_running, ending_of}
+use Rattle.deterministic.specs.Bounds.{Sound, Calm, by_fault}
+use Rattle.deterministic.proofs.Doings.{after_then}
 use Rattle.bounds.specs.Kept.{Ended}
-use Rattle.bounds.proofs.Numbers.{rows_length, unmarked_length}
-use Rattle.bounds.proofs.Lists.{rest_length, without_ids, unmarked_without}
+use Rattle.deterministic.proofs.Unmarked.{unmarked_length, unmarked_without}
+use Rattle.bounds.proofs.Numbers.{rows_length}
+use Rattle.bounds.proofs.Lists.{without_ids}
 use Rattle.bounds.proofs.Held.{Held, all, held, sound, held_faults, held_tree, held_queued, held_not_running}
 use Rattle.bounds.proofs.Signals.{ended_wakes}
 use Rattle.bounds.proofs.Wakes.{load, allowance, woken, held_wakes}
@@ -82,7 +84,7 @@ fault_passes listing code m h room = go m.faults.caught m.faults.kept refl where
   first : m.faults.kept ≡ None → Passed listing 1 m (move (wake 0 cause.Fault) kept_now)
   first none =
       let more = length_push m.queues.waiting 0 in
-      let fewer = rest_length m.ledger.blank room in
+      let fewer = free_written (entry.Wake 0 cause.Fault) m.ledger room in
       let was : by_fault m.faults ≡ 0 = ap (λ (o : Option ℕ). by_fault (record { caught = m.faults.caught; kept = o })) none in
       record {
         stands = held_queued listing kept_now (held_faults listing m h kept_now.faults) 0 (entry.Wake 0 cause.Fault) room;
@@ -158,7 +160,7 @@ runs_no_more listing i m h = go (task_at i m) where
 -- it leaves the registry, which then has the ids that are listed
 pub leaves : (i : ℕ) (how : Ending) (m : Model) → Held (but i) m → 1 ≤ free m → Passed all 1 m (move (leave i how) m)
 leaves i how m h room =
-    let fewer = rest_length m.ledger.blank room in
+    let fewer = free_written (entry.Done i how) m.ledger room in
     let longer = length_push m.ledger.log (entry.Done i how) in
     let next = left_next i m.tree in
     let opens = left_opens i m.tree in

@@ -1,7 +1,7 @@
 -- A granted call keeps the bounds: one lemma for each call.
 use Rattle.std.proofs.Common.{◌≡◌, ℕ, ◌+◌, ◌<◌, ◌≤◌, Bool, true, false, cond, eqb, List, [], ◌∷◌, ◌++◌, length, ℤ, Some, None, Option, sym, refl, ap, ◌∙◌, arith}
 use lib.ListN.{length-map}
-use Rattle.std.proofs.lemmas.List.{length_push}
+use Rattle.std.proofs.lemmas.List.{length_push, map_push}
 use Rattle.std.proofs.lemmas.Bool.{ne_eqb}
 use Rattle.entry.specs.declared.Entry.TheVariants as entry
 use Rattle.reasons.specs.declared.cause.Cause.TheVariants as cause
@@ -15,14 +15,15 @@ use Rattle.signal.specs.Model as stops
 use Rattle.signal.specs.Model.{Stops, stop_wakes, completion_wakes}
 use Rattle.auditor.specs.Events as event
 use Rattle.growth.proofs.Growth.{child_next, child_opens, child_seats, seated_next, seated_opens, seated_seats, closed_next, closed_opens, closed_opens_held, closed_seats}
-use Rattle.model.specs.Model.{Model, free, task_at, new_task}
-use Rattle.model.specs.Moves.{arm, quiet, grant, audit, signals, move, moves}
-use Rattle.model.specs.Refusals.{caller, reached}
-use Rattle.model.specs.Calls.{child, close, spawn, wake, abort, stop, stopped, signal, completed, let_go, does, spending, arming}
-use Rattle.model.specs.Bounds.{Sound, Calm, Spare}
+use Rattle.ledger.proofs.Books.{free_written}
+use Rattle.deterministic.specs.Model.{Model, free, task_at, new_task, id_of}
+use Rattle.deterministic.specs.Moves.{arm, quiet, grant, audit, signals, move, moves}
+use Rattle.deterministic.specs.Refusals.{caller, reached}
+use Rattle.deterministic.specs.Calls.{child, close, spawn, wake, abort, stop, stopped, signal, completed, let_go, does, spending, arming}
+use Rattle.deterministic.specs.Bounds.{Sound, Calm, Spare}
 use Rattle.bounds.specs.Kept.{Bounded}
-use Rattle.bounds.proofs.Numbers.{rows_length, unmarked_length}
-use Rattle.bounds.proofs.Lists.{rest_length, push_ids, unmarked_push}
+use Rattle.deterministic.proofs.Unmarked.{unmarked_length, unmarked_push}
+use Rattle.bounds.proofs.Numbers.{rows_length}
 use Rattle.bounds.proofs.Held.{Held, all, held, sound, held_digest, held_tree, held_stop, held_granted, held_queued}
 use Rattle.bounds.proofs.Signals.{Turned, given_turned, awaiting_turned, asking_turned, let_go_turned, stop_wakes_few, let_go_wakes}
 use Rattle.bounds.proofs.Wakes.{load, allowance, woken, held_wakes}
@@ -69,14 +70,14 @@ module _ (m : Model) (s : Sound m) (calm : Calm m) (spare : Spare m) (less : m.b
       let n = s.numbered in
       let next = seated_next c i m.tree in
       let opens = seated_opens (caller m) c i m.tree is_open in
-      let fewer = rest_length m.ledger.blank (omega arith) in
+      let fewer = free_written (entry.Reg i) m.ledger (omega arith) in
       let longer = length_push m.ledger.log (entry.Reg i) in
       let more = length_push m.queues.waiting i in
       let tasks = length_push m.registry.tasks (new_task i label (Some c)) in
       let one_more = unmarked_push m.registry.tasks i label (Some c) in
       let most = unmarked_length m.registry.tasks in
       bounded (moves (does (spawn c label) m) granted) (record {
-        listed = tasks_entered i m.stop.roll ∙ (ap (λ (l : List ℕ). l ++ i ∷ []) s.listed ∙ sym (push_ids m.registry.tasks (new_task i label (Some c))));
+        listed = tasks_entered i m.stop.roll ∙ (ap (λ (l : List ℕ). l ++ i ∷ []) s.listed ∙ sym (map_push id_of m.registry.tasks (new_task i label (Some c))));
         list_next = refl;
         few = omega arith;
         seated = λ k le. (let other : eqb i k ≡ false = ne_eqb i k (λ e. omega (arith, e)) in omega (arith, seated_seats k c i m.tree other, s.seated k (omega arith)));
@@ -86,7 +87,7 @@ module _ (m : Model) (s : Sound m) (calm : Calm m) (spare : Spare m) (less : m.b
   pub arm_keeps : (a : Alarm) → 512 ≤ free m → Bounded (move (arm a) granted)
   arm_keeps a room =
       let n = s.numbered in
-      let fewer = rest_length m.ledger.blank (omega arith) in
+      let fewer = free_written (entry.Arm a.task a.time) m.ledger (omega arith) in
       let longer = length_push m.ledger.log (entry.Arm a.task a.time) in
       bounded (move (arm a) granted) (record { listed = s.listed; list_next = s.list_next; few = s.few; seated = s.seated; numbered = omega (arith, n, fewer, longer) }) calm (omega arith)
 
@@ -102,7 +103,7 @@ module _ (m : Model) (s : Sound m) (calm : Calm m) (spare : Spare m) (less : m.b
 
   pub wake_keeps : (i : ℕ) → 512 ≤ free m → length m.queues.waiting < 256 → Bounded (moves (does (wake i) m) granted)
   wake_keeps i room place_free =
-      let fewer = rest_length m.ledger.blank (omega arith) in
+      let fewer = free_written (entry.Wake i cause.Wake) m.ledger (omega arith) in
       let more = length_push m.queues.waiting i in
       let most = unmarked_length m.registry.tasks in
       bounded (moves (does (wake i) m) granted) (held_queued all granted stands i (entry.Wake i cause.Wake) (omega arith)) (omega (arith, s.few)) (omega arith)

@@ -3,15 +3,16 @@ use Rattle.std.proofs.Common.{◌≡◌, ℕ, ◌<◌, ◌≤◌, List, map, len
 use Rattle.std.proofs.lemmas.List.{length_push}
 use Rattle.keyed.proofs.Finds.{length_change}
 use Rattle.entry.specs.declared.Entry.{Entry}
+use Rattle.ledger.proofs.Books.{free_written}
 use Rattle.roster.specs.Row.{task_of}
 use Rattle.lineage.specs.Family.{Family}
 use Rattle.supervision.specs.Sound.{seats_with}
 use Rattle.signal.specs.Model.{Stops}
-use Rattle.model.specs.declared.clock.Clock.{Clock}
-use Rattle.model.specs.Model.{Task, Queues, Faults, Model, with_clock, with_queues, with_registry, with_tree, with_stop, with_faults, with_counts, with_digest, free, noted, queued, id_of, with_changed, one_not_running}
-use Rattle.model.specs.Moves.{quiet, grant, move}
-use Rattle.model.specs.Bounds.{Sound, Numbered, open_contexts}
-use Rattle.bounds.proofs.Lists.{rest_length, change_ids}
+use Rattle.deterministic.specs.declared.clock.Clock.{Clock}
+use Rattle.deterministic.specs.Model.{Task, Queues, Faults, Model, with_clock, with_queues, with_registry, with_tree, with_stop, with_faults, with_counts, with_digest, free, noted, queued, id_of, with_changed, one_not_running}
+use Rattle.deterministic.specs.Moves.{quiet, grant, move}
+use Rattle.deterministic.specs.Bounds.{Sound, Numbered, open_contexts}
+use Rattle.bounds.proofs.Lists.{change_ids}
 
 -- an executor is sound but that the stop signal lists, of the registered tasks, what `listing` makes of them
 pub record Held (listing : List ℕ → List ℕ) (m : Model) : Type 0 where
@@ -36,7 +37,7 @@ module _ (listing : List ℕ → List ℕ) (m : Model) (h : Held listing m) wher
   pub held_noted : (e : Entry) → 0 < free m → Held listing (noted e m)
   held_noted e room =
       let n = h.numbered in
-      let fewer = rest_length m.ledger.blank room in
+      let fewer = free_written e m.ledger room in
       let more = length_push m.ledger.log e in
       record { listed = h.listed; list_next = h.list_next; few = h.few; seated = h.seated; numbered = omega (arith, n, fewer, more) }
 
@@ -88,5 +89,5 @@ module _ (listing : List ℕ → List ℕ) (m : Model) (h : Held listing m) wher
     list_next = h.list_next;
     few = h.few;
     seated = h.seated;
-    numbered = omega (arith, h.numbered, rest_length m.ledger.blank room, length_push m.ledger.log e);
+    numbered = omega (arith, h.numbered, free_written e m.ledger room, length_push m.ledger.log e);
   }

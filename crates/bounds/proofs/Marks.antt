@@ -4,14 +4,15 @@ use Rattle.std.proofs.lemmas.List.{length_push}
 use Rattle.keyed.specs.Choices.{given}
 use Rattle.keyed.proofs.Finds.{find_key}
 use Rattle.entry.specs.declared.Entry.TheVariants as entry
+use Rattle.ledger.proofs.Books.{free_written}
 use Rattle.reasons.specs.declared.cause.Cause.TheVariants as cause
-use Rattle.model.specs.Model.{Task, Model, with_registry, with_counts, free, id_of, task_at, marked, with_changed, one_not_running}
-use Rattle.model.specs.Moves.{wake, mark, move, moves, after_doing}
-use Rattle.model.specs.Calls.{marking, marking_task}
-use Rattle.model.specs.Ending.{markings}
-use Rattle.model.specs.Bounds.{unmarked}
-use Rattle.model.proofs.Doings.{after_then}
-use Rattle.bounds.proofs.Lists.{rest_length, unmarked_one_fewer}
+use Rattle.deterministic.specs.Model.{Task, Model, with_registry, with_counts, free, id_of, task_at, marked, with_changed, one_not_running}
+use Rattle.deterministic.specs.Moves.{wake, mark, move, moves, after_doing}
+use Rattle.deterministic.specs.Calls.{marking, marking_task}
+use Rattle.deterministic.specs.Ending.{markings}
+use Rattle.deterministic.specs.Bounds.{unmarked}
+use Rattle.deterministic.proofs.Doings.{after_then}
+use Rattle.deterministic.proofs.Unmarked.{unmarked_one_fewer}
 use Rattle.bounds.proofs.Held.{Held, held_noted, held_queued, held_changed, held_not_running}
 use Rattle.bounds.proofs.Wakes.{load, allowance}
 
@@ -38,8 +39,8 @@ module _ (listing : List ℕ → List ℕ) (m : Model) (h : Held listing m) (roo
       let changed : Model = with_registry (with_changed marked t.id m.registry) m in
       let calmer : Model = with_counts (one_not_running changed.counts) changed in
       let next : Model = move (mark t.id) m in
-      let fewer = rest_length m.ledger.blank (omega arith) in
-      let again = rest_length next.ledger.blank (omega arith) in
+      let fewer = free_written (entry.Mark t.id) m.ledger (omega arith) in
+      let again = free_written (entry.Wake t.id cause.Abort) next.ledger (omega arith) in
       let more = length_push m.queues.waiting t.id in
       let stands : Held listing next =
       held_noted listing calmer (held_not_running listing changed (held_changed listing m h marked (λ _. refl) t.id)) (entry.Mark t.id) (omega arith)

@@ -9,17 +9,10 @@ use Rattle.nodes.specs.declared.Node.{Node}
 use Rattle.nodes.specs.Node.{serial_of, seats}
 use Rattle.supervision.specs.Sound.{seats_with}
 use Rattle.signal.specs.Model.{has_stopped, complete}
-use Rattle.model.specs.Model.{Task, Model, id_of}
-use Rattle.model.specs.Bounds.{Sound, Numbered, Calm, unmarked}
+use Rattle.deterministic.specs.Model.{Task, Model, id_of}
+use Rattle.deterministic.specs.Bounds.{Sound, Numbered, Calm, unmarked}
+use Rattle.deterministic.proofs.Unmarked.{unmarked_length}
 use Rattle.bounds.specs.Kept.{Small}
-
--- no more tasks are unmarked than there are
-pub unmarked_length : (ts : List Task) → unmarked ts ≤ length ts
-unfolding unmarked
-unmarked_length [] = omega arith
-unmarked_length (t ∷ ts) =
-    let rest = unmarked_length ts in
-    elim t.marked as (λ b. cond b 0 1 + unmarked ts ≤ length (t ∷ ts)) [ true ↦ omega arith | false ↦ omega arith ]
 
 -- at most n, if at all
 pub cond_most : (b : Bool) (n : ℕ) → cond b n 0 ≤ n

@@ -1,10 +1,10 @@
 -- What holds of a refusal, test by test.
 use Rattle.std.proofs.Common.{◌≡◌, ◌<◌, ◌≤◌, Bool, true, false, cond, ltb, leb, Some, None, Option, refl}
 use Rattle.std.proofs.lemmas.Bool.{ltb-true, leb-true}
-use Rattle.model.specs.declared.refusal.Refusal.{Refusal}
-use Rattle.model.specs.declared.refusal.Refusal.TheVariants as refusal
-use Rattle.model.specs.Model.{Model, free}
-use Rattle.model.specs.Refusals.{unless, ◌else◌, call_granted, room}
+use Rattle.deterministic.specs.declared.refusal.Refusal.{Refusal}
+use Rattle.deterministic.specs.declared.refusal.Refusal.TheVariants as refusal
+use Rattle.deterministic.specs.Model.{Model, free}
+use Rattle.deterministic.specs.Refusals.{unless, ◌else◌, call_granted, room}
 
 module _ (P : Option Refusal → Type 0) where
   -- whatever the refusal is

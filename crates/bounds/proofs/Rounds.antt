@@ -3,17 +3,17 @@ use Rattle.std.proofs.Common.{ℕ, ◌<◌, ◌≤◌, Bool, true, false, cond, 
 use Rattle.std.proofs.lemmas.List.{length_push}
 use Rattle.entry.specs.declared.Entry.TheVariants as entry
 use Rattle.reasons.specs.declared.ending.Ending.TheVariants as ending
-use Rattle.model.specs.declared.outcome.Outcome.{Outcome}
-use Rattle.model.specs.declared.outcome.Outcome.TheVariants as outcome
-use Rattle.model.specs.Model.{Task, Model, with_queues, free, pended}
-use Rattle.model.specs.Moves.{move, moves, pend, after_doing}
-use Rattle.model.specs.Calls.{Call, after, apply}
-use Rattle.model.specs.Ending.{ending_of, is_marked, settling, settling_root}
-use Rattle.model.specs.Run.{opened, still_drained, skipped, polled, called, settle}
-use Rattle.model.specs.Bounds.{Sound, Calm}
+use Rattle.ledger.proofs.Books.{free_written}
+use Rattle.deterministic.specs.declared.outcome.Outcome.{Outcome}
+use Rattle.deterministic.specs.declared.outcome.Outcome.TheVariants as outcome
+use Rattle.deterministic.specs.Model.{Task, Model, with_queues, free, pended}
+use Rattle.deterministic.specs.Moves.{move, moves, pend, after_doing}
+use Rattle.deterministic.specs.Calls.{Call, after, apply}
+use Rattle.deterministic.specs.Ending.{ending_of, is_marked, settling, settling_root}
+use Rattle.deterministic.specs.Run.{opened, still_drained, skipped, polled, called, settle}
+use Rattle.deterministic.specs.Bounds.{Sound, Calm}
 use Rattle.bounds.specs.Kept.{Steady, Bounded, Ended, StepsKeep}
-use Rattle.bounds.proofs.Numbers.{unmarked_length}
-use Rattle.bounds.proofs.Lists.{rest_length, unmarked_pended}
+use Rattle.deterministic.proofs.Unmarked.{unmarked_length, unmarked_pended}
 use Rattle.bounds.proofs.Held.{all, held, sound, held_noted, held_queues, held_changed}
 use Rattle.bounds.proofs.Calls.{call_keeps}
 use Rattle.bounds.proofs.Ends.{end_keeps}
@@ -41,7 +41,7 @@ module _ (m : Model) (s : Sound m) where
   pub polled_sound : (t : Task) (calls : Bool) (ids : List ℕ) → 0 < free m → Sound (polled t calls ids m)
   polled_sound t calls ids room =
       let n = s.numbered in
-      let fewer = rest_length m.ledger.blank room in
+      let fewer = free_written (entry.Poll t.id calls) m.ledger room in
       let longer = length_push m.ledger.log (entry.Poll t.id calls) in
       record { listed = s.listed; list_next = s.list_next; few = s.few; seated = s.seated; numbered = omega (arith, n, fewer, longer) }
 
@@ -49,7 +49,7 @@ module _ (m : Model) (s : Sound m) where
   pub called_sound : (t : Task) (calls : Bool) (ids : List ℕ) → 0 < free m → Sound (called t.id (polled t calls ids m))
   called_sound t calls ids room =
       let n = s.numbered in
-      let fewer = rest_length m.ledger.blank room in
+      let fewer = free_written (entry.Poll t.id calls) m.ledger room in
       let longer = length_push m.ledger.log (entry.Poll t.id calls) in
       record { listed = s.listed; list_next = s.list_next; few = s.few; seated = s.seated; numbered = omega (arith, n, fewer, longer) }
 
@@ -57,7 +57,7 @@ module _ (m : Model) (s : Sound m) where
   called_bounded t calls ids calm room = record {
     sound = called_sound t calls ids (omega arith);
     calm = calm;
-    spare = omega (arith, rest_length m.ledger.blank (omega arith));
+    spare = omega (arith, free_written (entry.Poll t.id calls) m.ledger (omega arith));
   }
 
   pub pends_steady : (i : ℕ) → Calm m → Steady (move (pend i) m)

@@ -2,11 +2,11 @@
 use Rattle.std.proofs.Common.{◌≡◌, ℕ, ◌+◌, ◌≤◌, List, [], ◌∷◌, length, refl, arith}
 use Rattle.std.proofs.lemmas.List.{length_push}
 use Rattle.entry.specs.declared.Entry.TheVariants as entry
+use Rattle.ledger.proofs.Books.{free_written}
 use Rattle.reasons.specs.declared.cause.Cause.{Cause}
-use Rattle.model.specs.Model.{Model, free}
-use Rattle.model.specs.Moves.{wake, move, moves, wakes}
-use Rattle.model.specs.Bounds.{unmarked, by_stop, by_completion, by_fault}
-use Rattle.bounds.proofs.Lists.{rest_length}
+use Rattle.deterministic.specs.Model.{Model, free}
+use Rattle.deterministic.specs.Moves.{wake, move, moves, wakes}
+use Rattle.deterministic.specs.Bounds.{unmarked, by_stop, by_completion, by_fault}
 use Rattle.bounds.proofs.Held.{Held, held_queued}
 
 -- the ids that wait, and the tasks whose mark could still wake them
@@ -27,7 +27,7 @@ pub woken : (cause : Cause) (ids : List ℕ) (m : Model) → length ids ≤ free
 woken cause [] m room = record { loaded = omega arith; allowed = refl; wrote = omega arith }
 woken cause (i ∷ ids) m room =
     let next : Model = move (wake i cause) m in
-    let fewer = rest_length m.ledger.blank (omega arith) in
+    let fewer = free_written (entry.Wake i cause) m.ledger (omega arith) in
     let more = length_push m.queues.waiting i in
     let rest = woken cause ids next (omega arith) in
     record { loaded = omega (arith, rest.loaded, more); allowed = rest.allowed; wrote = omega (arith, rest.wrote, fewer) }
@@ -36,4 +36,4 @@ pub held_wakes : (listing : List ℕ → List ℕ) (cause : Cause) (ids : List �
 held_wakes listing cause [] m room h = h
 held_wakes listing cause (i ∷ ids) m room h =
     let next : Model = move (wake i cause) m in
-    held_wakes listing cause ids next (omega (arith, rest_length m.ledger.blank (omega arith))) (held_queued listing m h i (entry.Wake i cause) (omega arith))
+    held_wakes listing cause ids next (omega (arith, free_written (entry.Wake i cause) m.ledger (omega arith))) (held_queued listing m h i (entry.Wake i cause) (omega arith))

@@ -8,15 +8,15 @@ use Rattle.entry.specs.declared.Entry.TheVariants as entry
 use Rattle.ledger.specs.Book.{empty, right_size}
 use Rattle.reasons.specs.declared.ending.Ending.{Ending}
 use Rattle.supervision.specs.Calls.{seat_of}
-use Rattle.model.specs.declared.clock.Clock.{Clock}
-use Rattle.model.specs.declared.outcome.Outcome.{Outcome}
-use Rattle.model.specs.Model.{Task, Model, free, queued}
-use Rattle.model.specs.Moves.{move, pend, after_doing}
-use Rattle.model.specs.Calls.{Call, after, apply}
-use Rattle.model.specs.Ending.{ending_of}
-use Rattle.model.specs.Run.{opened, skipped, polled, called, settle, ticked, leapt, rung, completed}
-use Rattle.model.specs.Start.{idle_at}
-use Rattle.model.specs.Bounds.{Sound, Calm, Spare, unmarked}
+use Rattle.deterministic.specs.declared.clock.Clock.{Clock}
+use Rattle.deterministic.specs.declared.outcome.Outcome.{Outcome}
+use Rattle.deterministic.specs.Model.{Task, Model, free, queued}
+use Rattle.deterministic.specs.Moves.{move, pend, after_doing}
+use Rattle.deterministic.specs.Calls.{Call, after, apply}
+use Rattle.deterministic.specs.Ending.{ending_of}
+use Rattle.deterministic.specs.Run.{opened, skipped, polled, called, settle, ticked, leapt, rung, completed}
+use Rattle.deterministic.specs.Start.{idle_at}
+use Rattle.deterministic.specs.Bounds.{Sound, Calm, Spare, unmarked}
 
 -- what holds between the steps of a round
 pub record Steady (m : Model) : Type 0 where

@@ -1,4 +1,3 @@
 -- Lemmas of the checksum.
-mod Feeding
 mod Linear
 mod Rule

@@ -12,22 +12,12 @@ pub struct Crc32c {
 }
 
 // The register after one byte more: the table has what its low byte comes to, the rest shifts down.
+#[tactic(auto, using(crate::proofs::Rule::table_takes_byte), unfolding(crate::specs::Crc::after_eight, crate::specs::Crc::after_bit))]
 fn take_byte(register: u32, byte: u8) -> u32
     ensures { result ≡ after_byte register byte }
 {
     let low = ((register ^ byte as u32) & 0xff) as usize;
     TABLE[low] ^ (register >> 8)
-}
-
-// The register after a run of bytes more.
-fn take_bytes(register: u32, bytes: &[u8]) -> u32
-    ensures { result ≡ after_bytes register bytes.now }
-{
-    let mut after = register;
-    for byte in bytes {
-        after = take_byte(after, *byte);
-    }
-    after
 }
 
 impl Crc32c {
@@ -45,7 +35,9 @@ impl Crc32c {
         ensures register { self.new.register ≡ after_bytes self.old.register bytes.now }
         ensures fed { (before : List ℕ) → Fed self.old before → Fed self.new (before ++ bytes.now) }
     {
-        self.register = take_bytes(self.register, bytes);
+        self.register = bytes
+            .iter()
+            .fold(self.register, |register, byte| take_byte(register, *byte));
     }
 
     // The checksum of all bytes that were fed, however they were cut.

@@ -3,21 +3,17 @@
 -- actor    a task of the run: its steps that are left, how far it is with the first of them, and its own context
 -- troupe   the crew's value: the script's tasks, the actors, which task a name means, and the first refused call
 -- course   what a step comes to: the next step, a wait, or the end of the body
-use Rattle.std.specs.Prelude.{ℕ, ◌+◌, ◌-◌, ◌^◌, List, [], ◌∷◌, ◌++◌, ℤ, pos, Some, None, codes, Option}
+use Rattle.std.specs.Prelude.{ℕ, ◌+◌, ◌-◌, ◌^◌, Bool, true, false, List, [], ◌∷◌, ◌++◌, ℤ, pos, Some, None, codes, Option}
 use Rattle.std.specs.Str.{bytes_eq}
 use Rattle.keyed.specs.Keyed.{find, change}
 use Rattle.keyed.specs.Members.{first}
 use Rattle.keyed.specs.Choices.{given}
 use Rattle.oneshot.specs.Cell.{sent}
-use Rattle.signal.specs.declared.Poll.{Poll}
-use Rattle.signal.specs.declared.Poll.TheVariants.{Ready, Pending}
 use Rattle.forms.specs.Meaning as script
 use Rattle.forms.specs.Meaning.{Act, Plan}
 use Rattle.deterministic.specs.declared.outcome.Outcome.{Outcome}
 use Rattle.deterministic.specs.declared.outcome.Outcome.TheVariants as outcome
 use Rattle.deterministic.specs.declared.refusal.Refusal.{Refusal}
-use Rattle.deterministic.specs.declared.sleep.Sleep.{Sleep}
-use Rattle.deterministic.specs.declared.sleep.Sleep.TheVariants.{Over, Alarm}
 use Rattle.deterministic.specs.Numbers.{refusal_number}
 use Rattle.deterministic.specs.Model.{Model}
 use Rattle.deterministic.specs.Calls as calls
@@ -154,10 +150,10 @@ by_refusal (Some r) line s next = fails line r s
 abbrev pub granted : ℕ → Call → Scene → (Scene → Scene) → Scene
 granted line c s next = by_refusal (refusal c s.model) line (made c s) next
 
--- the sleep is over, or goes on by an alarm
-abbrev pub by_sleep : ℕ → Sleep → Scene → Scene
-by_sleep t Over s = with_course onward s
-by_sleep t (Alarm serial) s = with_course (waits (asleep t serial)) s
+-- the sleep is over, or goes on by the alarm of a serial
+abbrev pub by_sleep : ℕ → Option ℕ → Scene → Scene
+by_sleep t None s = with_course onward s
+by_sleep t (Some serial) s = with_course (waits (asleep t serial)) s
 
 -- the task asks again by the alarm's serial
 abbrev pub sleep_on : ℕ → ℕ → ℕ → Scene → Scene
@@ -170,9 +166,9 @@ sleep_first line n s =
     granted line calls.current s (λ s'. granted line (calls.sleep n None) s' (by_sleep t (sleep_until_answer t None s'.model)))
 
 -- the signal is let go once the stop value is there
-abbrev pub by_signal : ℕ → Poll ℤ → Scene → Scene
-by_signal line (Ready value) s = granted line calls.let_go s (with_course onward)
-by_signal line Pending s = with_course (waits awaiting) s
+abbrev pub by_signal : ℕ → Option ℤ → Scene → Scene
+by_signal line (Some value) s = granted line calls.let_go s (with_course onward)
+by_signal line None s = with_course (waits awaiting) s
 
 -- the task asks its signal
 abbrev pub await_on : ℕ → Scene → Scene
@@ -183,9 +179,9 @@ abbrev pub await_first : ℕ → Scene → Scene
 await_first line s = granted line calls.stopped s (await_on line)
 
 -- the step is over with completion
-abbrev pub by_completion : Poll (Unit {0}) → Scene → Scene
-by_completion (Ready done) s = with_course onward s
-by_completion Pending s = with_course (waits stopping) s
+abbrev pub by_completion : Bool → Scene → Scene
+by_completion true s = with_course onward s
+by_completion false s = with_course (waits stopping) s
 
 -- the task asks for completion
 abbrev pub stop_on : ℕ → Scene → Scene

@@ -1,8 +1,10 @@
 -- The run as a function is a run by the rules.
 use Rattle.std.proofs.Common.{◌≡◌, ℕ, zero, suc, ◌+◌, ◌^◌, ◌<◌, ◌≤◌, Bool, true, false, cond, eqb, ltb, leb, List, [], ◌∷◌, length, Some, None, Option, sym, refl, ap, ◌∙◌, subst, arith, ltb-false, ltb-true, eqb-true, le-leb, leb-true}
 use borrow.Author.Tests.{eqb-false}
-use Rattle.keyed.specs.Keyed.{find}
+use Rattle.std.proofs.lemmas.Bool.{cond_both}
+use Rattle.std.proofs.lemmas.List.{nil_from_length}
 use Rattle.keyed.specs.Choices.{given}
+use Rattle.keyed.proofs.Finds.{find_key}
 use Rattle.reasons.specs.declared.ending.Ending.TheVariants as ending
 use Rattle.alarms.specs.declared.Alarm.{Alarm}
 use Rattle.alarms.specs.Model.{earliest}
@@ -15,45 +17,32 @@ use Rattle.deterministic.specs.Start as run
 use Rattle.deterministic.specs.Start.{Settings, idle, started}
 use Rattle.deterministic.specs.Facts.{HasGone}
 use Rattle.entry.specs.declared.Entry.{Entry}
-use Rattle.deterministic.specs.Run.{Finish, ledger_spent, faulted, timed_out, stalled, clock_spent, Stage, Final, expired, opened, polled, settle, ticked, leapt, leapt_to, jump, if_later, rung, deals, deal, deal_task, dealt, close, close_moved, rounds}
+use Rattle.deterministic.specs.Run.{Finish, Stage, Final, expired, opened, polled, settle, ticked, leapt, leapt_to, jump, if_later, rung, deals, deal, deal_task, dealt, close, close_moved, rounds}
 use Rattle.deterministic.specs.Acts.{Act}
 use Rattle.deterministic.specs.History.{Round}
 use Rattle.deterministic.specs.Went as went
 use Rattle.deterministic.specs.Went.{Expired, Dealt, Callable, Jumps, jumped_to, end_acts, turn_acts, turned_to, at_call, turn_at, Deals, order, arranged, round_of, Ticks, Plays, Went}
-use Rattle.deterministic.proofs.Choices.{cond_by, whether_by, given_by, not_both, not_true_false, no_length, some_length}
+use Rattle.deterministic.proofs.Choices.{whether_by, given_by}
 use Rattle.deterministic.proofs.Kept.{moves_drained, apply_drained, moves_free, apply_free, written_free, opened_free, leapt_free, rung_free}
-
--- the task that an id finds has that id
-found_id : (i : ℕ) (ts : List Task) (t : Task) → find id_of i ts ≡ Some t → t.id ≡ i
-found_id i [] t e = not_both None t refl e
-found_id i (u ∷ ts) t e = go (eqb u.id i) refl e (found_id i ts t) where
-  or_this : Task → Option Task → Task
-  or_this x None = x
-  or_this x (Some y) = y
-
-  go : (b : Bool) → eqb u.id i ≡ b → cond b (Some u) (find id_of i ts) ≡ Some t → (find id_of i ts ≡ Some t → t.id ≡ i) → t.id ≡ i
-  go true p q f = ap (λ (o : Option Task). (or_this u o).id) (sym q) ∙ eqb-true _ _ p
-  go false p q f = f q
 
 pub expired_is : (m : Model) → expired m ≡ true → Expired m
 expired_is m = go m.clock.deadline refl where
   go : (o : Option ℕ) → m.clock.deadline ≡ o → given o false (λ d. leb d m.clock.time) ≡ true → Expired m
-  go None e k = not_true_false false k refl
+  go None e k = cc
   go (Some d) e k = record { deadline = d; is = e; past = leb-true _ _ k }
 
 pub expired_not : (m : Model) → expired m ≡ false → Expired m → ⊥
-expired_not m k x =
-    not_true_false (expired m) (ap (λ (o : Option ℕ). given o false (λ d. leb d m.clock.time)) x.is ∙ le-leb x.deadline m.clock.time x.past) k
+expired_not m k x = cc (ap (λ (o : Option ℕ). given o false (λ d. leb d m.clock.time)) x.is ∙ le-leb x.deadline m.clock.time x.past, k)
 
 pub jump_derives : (m : Model) → Jumps m (jump m)
 jump_derives m =
-    cond_by (eqb (length m.queues.waiting) 0) (Jumps m) _ _
-    (λ z. go (no_length m.queues.waiting (eqb-true _ _ z)) m.alarms.alarms refl)
-    (λ z. went.busy (some_length m.queues.waiting (eqb-false _ _ z)))
+    cond_both (eqb (length m.queues.waiting) 0) _ _ (Jumps m)
+    (λ z. go (nil_from_length m.queues.waiting (eqb-true _ _ z)) m.alarms.alarms refl)
+    (λ z. went.busy (omega (arith, eqb-false _ _ z)))
   where
     go : m.queues.waiting ≡ [] → (l : List Alarm) → m.alarms.alarms ≡ l → Jumps m (given (earliest l) None (if_later m))
     go w [] e = went.no_alarm e
-    go w (a ∷ more) e = cond_by (ltb m.clock.time a.time) (Jumps m) _ _ (λ k. went.jumps a more w e (ltb-true _ _ k)) (λ k. went.due_already a more e (ltb-false _ _ k))
+    go w (a ∷ more) e = cond_both (ltb m.clock.time a.time) _ _ (Jumps m) (λ k. went.jumps a more w e (ltb-true _ _ k)) (λ k. went.due_already a more e (ltb-false _ _ k))
 
 -- the clock jumps as the rule says
 leapt_is : (m : Model) → leapt m ≡ jumped_to (jump m) m
@@ -70,7 +59,7 @@ fault_some : (t : Task) (m : Model) (code : ℕ) → fault_for_task t m ≡ Some
 fault_some t m code = go (eqb t.id 0) refl where
   go : (b : Bool) → eqb t.id 0 ≡ b → cond b m.faults.kept None ≡ Some code → (t.id ≡ 0) × (m.faults.kept ≡ Some code)
   go true p q = (eqb-true _ _ p, q)
-  go false p q = not_both None code refl q
+  go false p q = cc
 
 fault_none : (t : Task) (m : Model) → fault_for_task t m ≡ None → t.id ≡ 0 → m.faults.kept ≡ None
 fault_none t m = go (eqb t.id 0) refl where
@@ -86,13 +75,13 @@ module _ {V : Type 0} (rule : V → ℕ → Model → Turn V) where
 
   task_derives : (i : ℕ) (ids : List ℕ) (v : V) (m : Model) (t : Task) → Dealt i ids m → task_at i m ≡ Some t → Once v m ids (deal_task rule t ids v m)
   task_derives i ids v m t d z =
-      let is : t.id ≡ i = found_id i m.registry.tasks t z in
+      let is : t.id ≡ i = find_key id_of i m.registry.tasks t z in
       let here : Dealt t.id ids m = record { room = d.room; first = d.first ∙ ap (λ (j : ℕ). j ∷ ids) (sym is) } in
       let known : task_at t.id m ≡ Some t = ap (λ (j : ℕ). task_at j m) is ∙ z in
-      cond_by t.marked (Once v m ids) _ _
+      cond_both t.marked _ _ (Once v m ids)
       (λ q. record {
         on = λ _. (moves_drained (ending_of t.id ending.Aborted None (polled t false ids m)) (polled t false ids m), λ h u n f r. (_, went.aborted t ids here known q r));
-        off = λ x e. not_both None x refl e;
+        off = λ x e. cc;
       })
       (λ q. given_by (fault_for_task t m) (Once v m ids) _ _
       (λ k.
@@ -110,18 +99,18 @@ module _ {V : Type 0} (rule : V → ℕ → Model → Turn V) where
       let at_root = fault_some t m code k in
       let first : Dealt 0 ids m = record { room = here.room; first = here.first ∙ ap (λ (j : ℕ). j ∷ ids) at_root.0 } in
       record {
-        on = λ e. not_both (Some (faulted code)) (faulted code) e refl;
+        on = λ e. cc;
         off = λ x e. (_, went.kept t code ids first (ap (λ (j : ℕ). task_at j m) (sym at_root.0) ∙ known) q at_root.1);
       }))
 
   deal_derives : (i : ℕ) (ids : List ℕ) (v : V) (m : Model) → m.queues.drained ≡ i ∷ ids → Once v m ids (deal rule i ids v m)
   deal_derives i ids v m d =
-      cond_by (ltb (free m) 512) (Once v m ids) _ _
-      (λ e. record { on = λ z. not_both (Some ledger_spent) ledger_spent z refl; off = λ x z. ([], went.short i ids d (ltb-true _ _ e)) })
+      cond_both (ltb (free m) 512) _ _ (Once v m ids)
+      (λ e. record { on = λ z. cc; off = λ x z. ([], went.short i ids d (ltb-true _ _ e)) })
       (λ e.
       let here : Dealt i ids m = record { room = ltb-false _ _ e; first = d } in
       given_by (task_at i m) (Once v m ids) _ _
-      (λ z. record { on = λ _. (refl, λ h u n f r. (_, went.unknown i ids here z r)); off = λ x k. not_both None x refl k })
+      (λ z. record { on = λ _. (refl, λ h u n f r. (_, went.unknown i ids here z r)); off = λ x k. cc })
       (λ t z. task_derives i ids v m t here z))
 
   -- the deals as a function are deals by the rules
@@ -139,9 +128,9 @@ module _ {V : Type 0} (rule : V → ℕ → Model → Turn V) where
   deal_free : (i : ℕ) (ids : List ℕ) (v : V) (m : Model) → free (deal rule i ids v m).model ≤ free m
   deal_free i ids v m =
       let P : Stage V → Type 0 = λ s. free s.model ≤ free m in
-      cond_by (ltb (free m) 512) P _ _ (λ _. omega arith) (λ _.
+      cond_both (ltb (free m) 512) _ _ P (λ _. omega arith) (λ _.
       given_by (task_at i m) P _ _ (λ _. written_free m) (λ t _.
-      cond_by t.marked P _ _
+      cond_both t.marked _ _ P
       (λ _. omega (arith, written_free m, moves_free (ending_of t.id ending.Aborted None (polled t false ids m)) (polled t false ids m)))
       (λ _. given_by (fault_for_task t m) P _ _
       (λ _.
@@ -164,12 +153,12 @@ module _ {V : Type 0} (rule : V → ℕ → Model → Turn V) where
   close_free v m =
       let k : Model = leapt (ticked m) in
       let P : Stage V → Type 0 = λ s. s.finish ≡ None → (512 ≤ free m) × (free s.model ≤ free m) in
-      cond_by (ltb (free m) 512) P _ _ (λ _ z. not_both (Some ledger_spent) ledger_spent z refl) (λ e.
-      cond_by (ltb (m.clock.time + m.clock.cycle) (2 ^ 64)) P _ _
-      (λ _. cond_by (expired k) P _ _ (λ _ z. not_both (Some timed_out) timed_out z refl) (λ _.
-      cond_by (eqb (length (rung k).queues.waiting) 0) P _ _ (λ _ z. not_both (Some stalled) stalled z refl) (λ _ _.
+      cond_both (ltb (free m) 512) _ _ P (λ _ z. cc) (λ e.
+      cond_both (ltb (m.clock.time + m.clock.cycle) (2 ^ 64)) _ _ P
+      (λ _. cond_both (expired k) _ _ P (λ _ z. cc) (λ _.
+      cond_both (eqb (length (rung k).queues.waiting) 0) _ _ P (λ _ z. cc) (λ _ _.
       (ltb-false _ _ e, omega (arith, written_free m, leapt_free (ticked m), rung_free k)))))
-      (λ _ z. not_both (Some clock_spent) clock_spent z refl))
+      (λ _ z. cc))
 
   -- a round that is complete has written at least one entry
   pub dealt_free : (ids : List ℕ) (v : V) (m : Model) → (dealt rule ids v m).finish ≡ None → free (dealt rule ids v m).model < free m
@@ -180,7 +169,7 @@ module _ {V : Type 0} (rule : V → ℕ → Model → Turn V) where
       let c = close_free s.crew s.model z in
       let d = deals_free ids v (opened ids m) in
       omega (arith, c.0, c.1, d, written_free m, opened_free ids m))
-      (λ x e z. not_both s.finish x z e)
+      (λ x e z. cc)
 
   module _ {W : Type 0} (arrange : W → (ids : List ℕ) → Order W ℕ ids) where
     -- a round by the rules
@@ -193,16 +182,16 @@ module _ {V : Type 0} (rule : V → ℕ → Model → Turn V) where
         let k : Model = jumped_to j (ticked n) in
         let js : Jumps (ticked n) j = jump_derives (ticked n) in
         let P : Stage V → Type 0 = Played v w m in
-        cond_by (ltb (free n) 512) P _ _ (λ e. (_, went.short d (ltb-true _ _ e))) (λ e.
-        cond_by (ltb (n.clock.time + n.clock.cycle) (2 ^ 64)) P _ _
+        cond_both (ltb (free n) 512) _ _ P (λ e. (_, went.short d (ltb-true _ _ e))) (λ e.
+        cond_both (ltb (n.clock.time + n.clock.cycle) (2 ^ 64)) _ _ P
         (λ f.
         let ticks : Ticks rule arrange n = record { room = ltb-false _ _ e; fits = ltb-true _ _ f } in
         subst (λ (x : Model). Played v w m (close_moved u x)) (sym (leapt_is (ticked n)))
-        (cond_by (expired k) P _ _
+        (cond_both (expired k) _ _ P
         (λ x. (_, went.timeout d ticks js (expired_is k x)))
-        (λ x. cond_by (eqb (length (rung k).queues.waiting) 0) P _ _
-        (λ y. (_, went.stalls d ticks js (expired_not k x) (no_length (rung k).queues.waiting (eqb-true _ _ y))))
-        (λ y. (_, went.completes d ticks js (expired_not k x) (some_length (rung k).queues.waiting (eqb-false _ _ y)))))))
+        (λ x. cond_both (eqb (length (rung k).queues.waiting) 0) _ _ P
+        (λ y. (_, went.stalls d ticks js (expired_not k x) (nil_from_length (rung k).queues.waiting (eqb-true _ _ y))))
+        (λ y. (_, went.completes d ticks js (expired_not k x) (omega (arith, eqb-false _ _ y)))))))
         (λ f. (_, went.past_end d (ltb-false _ _ e) (ltb-false _ _ f))))
 
     round_derives : (v : V) (w : W) (m : Model) → Played v w m (dealt rule (order rule arrange w m) v m)
@@ -227,7 +216,7 @@ module _ {V : Type 0} (rule : V → ℕ → Model → Turn V) where
         let ids = order rule arrange w m in
         let s : Stage V = dealt rule ids v m in
         let p = round_derives v w m in
-        cond_by (expired m) (Ran v w m) _ _ (λ x. ([], went.shut (expired_is m x))) (λ x.
+        cond_both (expired m) _ _ (Ran v w m) (λ x. ([], went.shut (expired_is m x))) (λ x.
         given_by s.finish (Ran v w m) _ _
         (λ e.
         let r = rounds_derive n s.crew (arranged rule arrange w m) s.model (omega (arith, dealt_free ids v m e)) in

@@ -6,6 +6,7 @@ use Rattle.alarms.specs.Laws.{due, later}
 use Rattle.entry.specs.declared.Entry.TheVariants as entry
 use Rattle.keyed.specs.Choices.{given}
 use Rattle.ledger.specs.Book.{rest}
+use Rattle.ledger.proofs.Books.{free_written}
 use Rattle.deterministic.specs.Model.{Model, free, queued, with_alarms}
 use Rattle.deterministic.specs.Moves.{Move, wake, register, arm, mark, pend, leave, grow, quiet, move, moves}
 use Rattle.deterministic.specs.Calls.{Call, doings, after, apply}
@@ -14,11 +15,6 @@ use Rattle.deterministic.specs.Run.{opened, ringing, standing, rung, leapt, leap
 length_rest : (es : List Entry) → length (rest es) ≤ length es
 length_rest [] = omega arith
 length_rest (e ∷ es) = omega arith
-
--- one entry is written, if one is free
-pub length_rest_less : (es : List Entry) → 0 < length es → length (rest es) < length es
-length_rest_less [] h = absurd (omega arith)
-length_rest_less (e ∷ es) h = omega arith
 
 pub moves_drained : (l : List Move) (m : Model) → (moves l m).queues.drained ≡ m.queues.drained
 moves_drained [] m = refl
@@ -58,7 +54,7 @@ written_free m = length_rest m.ledger.blank
 
 -- a round's draining is written, if an entry is free
 pub opened_free : (ids : List ℕ) (m : Model) → 0 < free (opened ids m) → free (opened ids m) < free m
-opened_free ids m h = length_rest_less m.ledger.blank (omega (arith, length_rest m.ledger.blank))
+opened_free ids m h = omega (arith, free_written (entry.Round (length ids)) m.ledger (omega (arith, length_rest m.ledger.blank)))
 
 pub leapt_free : (m : Model) → free (leapt m) ≤ free m
 leapt_free m = go (jump m) where

@@ -10,15 +10,11 @@ use Rattle.reasons.specs.declared.cause.Cause.TheVariants as cause
 use Rattle.lineage.specs.Family.{aborted_at}
 use Rattle.supervision.specs.Calls.{link_count}
 use Rattle.alarms.specs.Model.{alarm_of}
-use Rattle.signal.specs.declared.Poll.{Poll}
-use Rattle.signal.specs.declared.Poll.TheVariants.{Ready, Pending}
 use Rattle.signal.specs.Model as stops
 use Rattle.signal.specs.Model.{stop_wakes, completion_wakes}
 use Rattle.auditor.specs.Events as event
 use Rattle.deterministic.specs.declared.refusal.Refusal.{Refusal}
 use Rattle.deterministic.specs.declared.refusal.Refusal.TheVariants as refused
-use Rattle.deterministic.specs.declared.sleep.Sleep.{Sleep}
-use Rattle.deterministic.specs.declared.sleep.Sleep.TheVariants.{Over, Alarm}
 use Rattle.deterministic.specs.Model.{Task, Model, task_at, one_spawned, one_running}
 use Rattle.deterministic.specs.Moves as moved
 use Rattle.deterministic.specs.Moves.{Move, register, arm, mark, grow, plant, seat, quiet, grant, tally, audit, signals, moves, wakes}
@@ -105,17 +101,17 @@ abbrev pub serial_or_new : Option ℕ → Model → ℕ
 serial_or_new None m = m.alarms.next
 serial_or_new (Some serial) m = serial
 
--- `sleep_until` answers over if the clock has reached the time, else the alarm's serial
-abbrev pub sleep_until_answer : ℕ → Option ℕ → Model → Sleep
-sleep_until_answer t serial m = cond (reached t m) Over (Alarm (serial_or_new serial m))
+-- `sleep_until` answers none if the clock has reached the time, else the serial of the alarm that stands for it
+abbrev pub sleep_until_answer : ℕ → Option ℕ → Model → Option ℕ
+sleep_until_answer t serial m = cond (reached t m) None (Some (serial_or_new serial m))
 
--- `signal` answers the first stop value, or pending
-abbrev pub signal_answer : Model → Poll ℤ
-signal_answer m = stops.polled m.stop.value
+-- `signal` answers the first stop value, or none while it is pending
+abbrev pub signal_answer : Model → Option ℤ
+signal_answer m = m.stop.value
 
--- `completed` answers that the stop is complete, or pending
-abbrev pub completed_answer : Model → Poll (Unit {0})
-completed_answer m = cond (stops.complete m.stop) (Ready tt) Pending
+-- `completed` answers whether the stop is complete
+abbrev pub completed_answer : Model → Bool
+completed_answer m = stops.complete m.stop
 
 pub data Answer : Type 0 where
   -- the call answers nothing
@@ -128,12 +124,12 @@ pub data Answer : Type 0 where
   count : ℕ → Answer
   -- a task and its context
   task : ℕ → ℕ → Answer
-  -- the sleep is over, or waits for an alarm
-  slept : Sleep → Answer
-  -- the stop value, or pending
-  value : Poll ℤ → Answer
-  -- complete, or pending
-  completion : Poll (Unit {0}) → Answer
+  -- none where the sleep is over, else the serial of the alarm for which it waits
+  slept : Option ℕ → Answer
+  -- the stop value, or none while it is pending
+  value : Option ℤ → Answer
+  -- whether the stop is complete
+  completion : Bool → Answer
 
 -- what a granted call answers
 abbrev pub answer : Call → Model → Answer

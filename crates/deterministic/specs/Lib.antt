@@ -1,4 +1,5 @@
 pub mod Numbers
+pub mod Trees
 pub mod Model
 pub mod Moves
 pub mod Refusals
@@ -7,6 +8,7 @@ pub mod Ending
 pub mod Rules
 pub mod Run
 pub mod Start
+pub mod Bounds
 pub mod Below
 pub mod Acts
 pub mod History

@@ -1,6 +1,7 @@
 -- What an executor stands for.
 --
--- clock      the time, by how much each round moves it, and the time at which the run is out of time
+-- clock      the time, by how much each round moves it, and the time at which the run is out of time: nanoseconds since the Unix
+--            epoch; without a deadline a run is never out of time
 -- queues     waiting, the ids queued for the next round; drained, the ids of this round that are not dealt yet
 -- registry   the tasks that were registered and have not ended, and the id that is given out next
 -- tree       the supervision tree: nodes, links, contexts
@@ -20,13 +21,9 @@ use Rattle.lineage.specs.Family.{Family}
 use Rattle.alarms.specs.Model.{Bells}
 use Rattle.signal.specs.Model.{Stops}
 use Rattle.auditor.specs.Events.{Event, digest_after}
+use Rattle.deterministic.specs.declared.body.Body.{Body}
+use Rattle.deterministic.specs.declared.clock.Clock.{Clock}
 use Rattle.deterministic.specs.declared.counts.Counts.{Counts}
-
--- times are nanoseconds since the Unix epoch; without a deadline a run is never out of time
-pub record Clock : Type 0 where
-  pub time : ℕ
-  pub cycle : ℕ
-  pub deadline : Option ℕ
 
 -- an id stands in a queue as often as it was queued
 pub record Queues : Type 0 where
@@ -51,11 +48,6 @@ pub record Registry : Type 0 where
 pub record Faults : Type 0 where
   pub caught : Bool
   pub kept : Option ℕ
-
--- whose body is called, and its granted calls in this poll
-pub record Body : Type 0 where
-  pub task : ℕ
-  pub granted : ℕ
 
 pub record Model : Type 0 where
   pub clock : Clock

@@ -15,7 +15,8 @@ use Rattle.alarms.specs.Model.{Bells, placed}
 use Rattle.signal.specs.Model.{Stops, entered}
 use Rattle.auditor.specs.Events.{Event, digest_after}
 use Rattle.deterministic.specs.declared.counts.Counts.{Counts}
-use Rattle.deterministic.specs.Model.{Faults, Body, Model, with_registry, with_tree, with_alarms, with_stop, with_counts, noted, queued, with_task, with_changed, without_task, marked, pended, one_not_running}
+use Rattle.deterministic.specs.declared.body.Body.{Body}
+use Rattle.deterministic.specs.Model.{Faults, Model, with_registry, with_tree, with_alarms, with_stop, with_counts, noted, queued, with_task, with_changed, without_task, marked, pended, one_not_running}
 
 pub data Growth : Type 0 where
   -- the context of this serial comes under this parent, and this task holds it

@@ -1,5 +1,6 @@
 -- The conditions on which calls are refused: each is one test, which gives its refusal or none.
 use Rattle.std.specs.Prelude.{ℕ, ◌+◌, ◌^◌, Bool, cond, ◌||◌, List, length, Some, None, Option, nat_le, nat_lt}
+use Rattle.std.specs.Option.{option_or}
 use Rattle.lineage.specs.Family.{open_for, aborted_at, node_free}
 use Rattle.lineage.specs.Births.{link_free}
 use Rattle.alarms.specs.Model.{has_room, found, is_for}
@@ -16,8 +17,7 @@ unless holds r = cond holds None (Some r)
 infixr 25 ◌else◌
 -- the first refusal, or else the second
 abbrev pub ◌else◌ : Option Refusal → Option Refusal → Option Refusal
-None else second = second
-(Some r) else second = Some r
+first else second = option_or first second
 
 -- the task whose body makes the call
 abbrev pub caller : Model → ℕ

@@ -13,8 +13,9 @@ use Rattle.alarms.specs.Model.{silent}
 use Rattle.signal.specs.Model.{unstopped, entered}
 use Rattle.auditor.specs.Events.{no_digest}
 use Rattle.arrange.specs.Order.{Order}
+use Rattle.deterministic.specs.declared.clock.Clock.{Clock}
 use Rattle.deterministic.specs.declared.counts.Counts.{Counts}
-use Rattle.deterministic.specs.Model.{Model, new_task, queued}
+use Rattle.deterministic.specs.Model.{Registry, Model, new_task, queued}
 use Rattle.deterministic.specs.Rules.{Turn}
 use Rattle.deterministic.specs.Run.{Final, Finish, root_done, faulted, timed_out, stalled, clock_spent, ledger_spent, end_of, rounds}
 
@@ -47,21 +48,33 @@ memory_refusal memory = cond (right_size memory) None (Some wrong_size_number)
 abbrev pub no_counts : Counts
 no_counts = record { iterations = 0; spawned = 0; running = 0; polls = 0 }
 
--- an executor with the root alone, not queued yet, over an empty ledger
-abbrev pub idle : Settings → List Entry → Model
-idle s memory = record {
-  clock = record { time = s.start; cycle = s.cycle; deadline = deadline_of s };
+-- the clock of a run with these settings, at its start
+abbrev pub clock_of : Settings → Clock
+clock_of s = record { time = s.start; cycle = s.cycle; deadline = deadline_of s }
+
+-- the root is registered, and no other task
+abbrev pub root_alone : Registry
+root_alone = record { tasks = new_task 0 (codes "root") None ∷ []; next = 1 }
+
+-- an executor with the root alone, not queued yet, at this clock, with faults caught or not, over this ledger
+abbrev pub idle_at : Clock → Bool → Book → Model
+idle_at clock caught book = record {
+  clock = clock;
   queues = record { waiting = []; drained = [] };
-  registry = record { tasks = new_task 0 (codes "root") None ∷ []; next = 1 };
+  registry = root_alone;
   tree = founded;
   alarms = silent;
   stop = entered 0 unstopped;
-  faults = record { caught = s.catch; kept = None };
+  faults = record { caught = caught; kept = None };
   counts = no_counts;
   digest = no_digest;
-  ledger = empty memory;
+  ledger = book;
   body = record { task = 0; granted = 0 };
 }
+
+-- that executor over an empty ledger, as the settings have it
+abbrev pub idle : Settings → List Entry → Model
+idle s memory = idle_at (clock_of s) s.catch (empty memory)
 
 -- at the start the root is registered, with the context at the tree's top, and queued
 abbrev pub started : Settings → List Entry → Model

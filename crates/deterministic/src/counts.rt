@@ -1,6 +1,6 @@
 // What an executor counts beside its ledger.
 
-#[derive(Clone, Copy)]
+#[derive(Clone, Copy, PartialEq, Eq)]
 pub struct Counts {
     // The rounds whose close was completed.
     pub iterations: u64,

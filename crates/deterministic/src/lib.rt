@@ -1,9 +1,10 @@
-// The executor of a rehearsal: what its calls are refused for, what they answer, and what it counts.
+// What an executor is, does and answers: its definitions, and the small types that they speak of.
 #![tactic(auto)]
 
+pub mod body;
+pub mod clock;
 pub mod counts;
 pub mod crew;
 mod facts;
 pub mod outcome;
 pub mod refusal;
-pub mod sleep;

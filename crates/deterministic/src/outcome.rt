@@ -1,6 +1,6 @@
 // What a call of a task's body comes to.
 
-#[derive(Clone, Copy)]
+#[derive(Clone, Copy, PartialEq, Eq)]
 pub enum Outcome {
     // The task waits to be dealt again.
     Pending,

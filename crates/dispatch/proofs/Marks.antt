@@ -1,17 +1,16 @@
 -- Tasks that are marked, one and one after another.
-use Rattle.std.proofs.Common.{◌≡◌, ℕ, ◌+◌, ◌-◌, ◌<◌, ◌≤◌, Bool, true, false, cond, not, List, [], ◌∷◌, length, get_or, drop, Some, Option, sym, refl, ap, ◌∙◌}
+use Rattle.std.proofs.Common.{◌≡◌, ℕ, ◌+◌, ◌-◌, ◌<◌, ◌≤◌, Bool, true, false, cond, not, List, [], ◌∷◌, length, get_or, drop, sym, refl, ap, ◌∙◌}
 use Rattle.std.proofs.lemmas.List.{at_drop_more, at_drop_all}
-use Rattle.std.proofs.lemmas.Bool.{ne_eqb, eq-eqb}
-use Rattle.keyed.specs.Choices.{given}
+use Rattle.std.proofs.lemmas.Bool.{ne_eqb}
 use Rattle.ledger.specs.Book.{Book}
 use Rattle.entry.specs.declared.Entry.TheVariants as entry
 use Rattle.reasons.specs.declared.cause.Cause.TheVariants as cause
-use Rattle.model.specs.declared.counts.Counts.{Counts}
-use Rattle.model.specs.Model.{Task, Queues, Registry, Model, task_at, noted, queued, with_changed, marked, one_not_running}
-use Rattle.model.specs.Moves.{moves, after_doing}
-use Rattle.model.specs.Calls.{marking_task, marking}
-use Rattle.model.specs.Ending.{markings, others}
-use Rattle.model.proofs.Doings.{after_then}
+use Rattle.deterministic.specs.declared.counts.Counts.{Counts}
+use Rattle.deterministic.specs.Model.{Task, Queues, Registry, Model, noted, queued, with_changed, marked, one_not_running}
+use Rattle.deterministic.specs.Moves.{moves, after_doing}
+use Rattle.deterministic.specs.Calls.{marking_task, marking}
+use Rattle.deterministic.specs.Ending.{markings, others}
+use Rattle.deterministic.proofs.Doings.{after_then}
 use Rattle.dispatch.specs.Seen.{with_parts}
 
 -- the counts with as many running
@@ -32,10 +31,6 @@ module _ (q : Queues) (r s : Registry) (c : Counts) (n : ℕ) (b : Book) (m : Mo
       p ≡ moves (marking_task t) (with_parts q r c b m)
   mark_woken o p before is then_is = rw (new, before) (then_is ∙ ap (queued t.id (entry.Wake t.id cause.Abort)) (is ∙ ap (noted (entry.Mark t.id)) struck))
 
--- the moves of a mark are those of the task that its id finds
-pub marking_found : (i : ℕ) (t : Task) (m n : Model) → Some t ≡ task_at i m → n ≡ moves (marking_task t) m → n ≡ after_doing (marking i) m
-marking_found i t m n found is = is ∙ ap (λ (o : Option Task). moves (given o [] marking_task) m) found
-
 -- one after another, a mark and then the others
 after_markings : (i : ℕ) (ids : List ℕ) (m : Model) → after_doing (markings (i ∷ ids)) m ≡ after_doing (markings ids) (after_doing (marking i) m)
 unfolding markings
@@ -50,11 +45,6 @@ module _ (spared : ℕ) (ids : List ℕ) (i : ℕ) where
   -- where the marks that are left lead
   abbrev left_to : List ℕ → Model → Model
   left_to l m = after_doing (markings (others spared l)) m
-
-  -- the id at i is spared
-  pub markings_spared : (d : ℕ) (m : Model) → i < length ids → get_or ids i d ≡ spared → left_to (drop (i + 1) ids) m ≡ left_to (drop i ids) m
-  markings_spared d m within is =
-      sym (at_drop_more (λ (l : List ℕ). left_to l m) ids i d within ∙ ap (λ (b : Bool). after_doing (markings (cond (not b) (get_or ids i d ∷ others spared (drop (i + 1) ids)) (others spared (drop (i + 1) ids)))) m) (eq-eqb (get_or ids i d) spared is))
 
   -- the id at i is marked
   pub markings_more : (d : ℕ) (m n : Model) → i < length ids → (get_or ids i d ≡ spared → ⊥) → n ≡ after_doing (marking (get_or ids i d)) m → left_to (drop (i + 1) ids) n ≡ left_to (drop i ids) m

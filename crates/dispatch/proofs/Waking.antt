@@ -3,8 +3,8 @@ use Rattle.std.proofs.Common.{◌≡◌, ℕ, ◌+◌, ◌<◌, ◌≤◌, List,
 use Rattle.std.proofs.lemmas.List.{at_drop_more, at_drop_all}
 use Rattle.entry.specs.declared.Entry.TheVariants as entry
 use Rattle.reasons.specs.declared.cause.Cause.{Cause}
-use Rattle.model.specs.Model.{Model, queued}
-use Rattle.model.specs.Moves.{moves, wakes}
+use Rattle.deterministic.specs.Model.{Model, queued}
+use Rattle.deterministic.specs.Moves.{moves, wakes}
 
 module _ (cause : Cause) (ids : List ℕ) (i : ℕ) where
   -- one id more is queued

@@ -1,11 +1,13 @@
 // The steps of a task's end.
-ghost use Rattle.std.specs.Prelude.{◌≡◌, ◌+◌, ◌*◌, ◌<◌, ◌≤◌, length};
-ghost use Rattle.model.specs.Model.{free};
-ghost use Rattle.model.specs.Moves.{after_doing, leave};
-ghost use Rattle.model.specs.Moves as moved;
-ghost use Rattle.model.specs.Ending.{contexts_close, signal_goes, fault_kept, cascade as cascading_below, stops_running};
-ghost use Rattle.model.specs.Bounds.{unmarked};
+// Each takes the state and the task: a struct of both would only borrow the state, and its methods say the same of it.
+ghost use Rattle.std.specs.Prelude.{◌≡◌, ◌<◌};
+ghost use Rattle.deterministic.specs.Model.{free};
+ghost use Rattle.deterministic.specs.Moves.{after_doing, leave};
+ghost use Rattle.deterministic.specs.Moves as moved;
+ghost use Rattle.deterministic.specs.Ending.{contexts_close, signal_goes, fault_kept, cascade as cascading_below, stops_running};
+ghost use Rattle.dispatch.specs.Seen.{HasRoom, MarksFit, SpendsByMarks};
 ghost use Rattle.state.specs.View.{view};
+ghost use Rattle.ending.specs.Spent.{SpendsAtMost};
 
 use entry::Entry;
 use reasons::cause::Cause;
@@ -16,18 +18,16 @@ use state::making::ROOT;
 // Closes every context that the task holds.
 pub fn close_contexts(state: &mut State, task: u64)
     ensures state { view state.new ≡ after_doing (contexts_close task) (view state.old) }
+    ensures spent { SpendsAtMost state.old.dispatcher state.new.dispatcher 0 }
 {
     state.tree.close_all(task);
 }
 
 // Lets the task's signal go. If completion comes with this, those who asked for it are queued, but not the task itself.
 pub fn let_signal_go(state: &mut State, task: u64)
-    requires room { 64 ≤ free (view state.old) }
-    requires place { length (view state.old).queues.waiting + 64 ≤ 1024 }
+    requires room { HasRoom state.old.dispatcher 64 64 }
     ensures state { view state.new ≡ after_doing (signal_goes task) (view state.old) }
-    ensures room { free (view state.old) ≤ free (view state.new) + 64 }
-    ensures place { length (view state.new).queues.waiting ≤ length (view state.old).queues.waiting + 64 }
-    ensures registry { (view state.new).registry ≡ (view state.old).registry }
+    ensures spent { SpendsAtMost state.old.dispatcher state.new.dispatcher 64 }
 {
     state.stop.end(task);
     state.dispatcher.queue_all(state.stop.woken(), Cause::Stop);
@@ -35,17 +35,14 @@ pub fn let_signal_go(state: &mut State, task: u64)
 
 // Keeps a fault, if the task ended by one, unless faults are caught or one was kept before; then the root is queued.
 pub fn keep_fault(state: &mut State, fault: Option<u32>)
-    requires room { 0 < free (view state.old) }
-    requires place { length (view state.old).queues.waiting < 1024 }
+    requires room { HasRoom state.old.dispatcher 1 1 }
     ensures state { view state.new ≡ after_doing (fault_kept fault) (view state.old) }
-    ensures room { free (view state.old) ≤ free (view state.new) + 1 }
-    ensures place { length (view state.new).queues.waiting ≤ length (view state.old).queues.waiting + 1 }
-    ensures registry { (view state.new).registry ≡ (view state.old).registry }
+    ensures spent { SpendsAtMost state.old.dispatcher state.new.dispatcher 1 }
 {
     let Some(code) = fault else {
         return;
     };
-    if !state.faults.caught && state.faults.kept.send(code).is_ok() {
+    if state.faults.keep(code) {
         state
             .dispatcher
             .queue(ROOT, Entry::Wake(ROOT, Cause::Fault));
@@ -54,10 +51,9 @@ pub fn keep_fault(state: &mut State, fault: Option<u32>)
 
 // Aborts the task's node and all below it, and marks the tasks that sit there, but not the task itself.
 pub fn cascade(state: &mut State, task: u64)
-    requires room { 2 * unmarked (view state.old).registry.tasks ≤ free (view state.old) }
-    requires place { length (view state.old).queues.waiting + unmarked (view state.old).registry.tasks ≤ 1024 }
+    requires fit { MarksFit state.old.dispatcher }
     ensures state { view state.new ≡ after_doing (cascading_below task) (view state.old) }
-    ensures room { free (view state.old) + 2 * unmarked (view state.new).registry.tasks ≤ free (view state.new) + 2 * unmarked (view state.old).registry.tasks }
+    ensures spent { SpendsByMarks state.old.dispatcher state.new.dispatcher }
 {
     let Some(ending) = state.dispatcher.tasks.find(task) else {
         return;

@@ -1,9 +1,9 @@
 // A task ends.
 ghost use Rattle.std.specs.Prelude.{◌≡◌, ◌+◌, ◌≤◌};
-ghost use Rattle.model.specs.Model.{free};
-ghost use Rattle.model.specs.Moves.{after_doing};
-ghost use Rattle.model.specs.Ending.{ending_of};
-ghost use Rattle.model.specs.Bounds.{Sound, Calm};
+ghost use Rattle.deterministic.specs.Model.{free};
+ghost use Rattle.deterministic.specs.Moves.{after_doing};
+ghost use Rattle.deterministic.specs.Ending.{ending_of};
+ghost use Rattle.deterministic.specs.Bounds.{Sound, Calm};
 ghost use Rattle.state.specs.View.{view};
 
 use crate::steps::{

@@ -9,7 +9,7 @@ use reasons::end::End;
 use reasons::ending::Ending;
 
 // Ids of tasks and times, in nanoseconds since the Unix epoch, are plain numbers here.
-#[derive(Clone, Copy)]
+#[derive(Clone, Copy, PartialEq, Eq, Debug)]
 pub enum Entry {
     // (reg id): the task was registered and queued.
     Reg(u64),

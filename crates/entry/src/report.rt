@@ -4,7 +4,7 @@ ghost use Rattle.entry.specs.Lines.{report_line};
 
 use std::fmt;
 
-#[derive(Clone, Copy)]
+#[derive(Clone, Copy, PartialEq, Eq, Debug)]
 pub struct Report {
     // The rounds whose close was completed.
     pub rounds: u64,

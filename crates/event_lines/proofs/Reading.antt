@@ -12,7 +12,7 @@ use Rattle.event_lines.specs.declared.event.Trouble.{Trouble}
 use Rattle.event_lines.specs.declared.event.Trouble.TheVariants.{NoEvent, NoId, NoValue}
 use Rattle.event_lines.specs.Lines.{and_then, asked, closed_as, event_by, event_in, event_named, labelled, polled}
 use Rattle.event_lines.specs.Said.{Exact, Labels, Says}
-use Rattle.event_lines.proofs.Ahead.{none_some, opens_is, word_is, number_is, name_is, closes_is}
+use Rattle.event_lines.proofs.Ahead.{opens_is, word_is, number_is, name_is, closes_is}
 
 abbrev Answer : Type 0
 Answer = Result Event Trouble
@@ -20,47 +20,36 @@ Answer = Result Event Trouble
 abbrev is_event : Event → Answer
 is_event e = Ok e
 
--- what is wrong is no event
-err_ok : (t : Trouble) (e : Event) → Err t ≡ is_event e → ⊥
-err_ok t e same = false≢true (ap is_ok same)
-
-abbrev event_or : Event → Answer → Event
-event_or x (Ok v) = v
-event_or x (Err t) = x
-
-ok_same : (x y : Event) → is_event x ≡ is_event y → x ≡ y
-ok_same x y same = ap (event_or x) same
-
 -- an event under a test: it passed, and the event comes from its first branch, or it failed, and the event comes from its second
 tested : (b : Bool) (r s : Answer) (e : Event) (P : Type 0) → cond b r s ≡ is_event e → (b ≡ true → r ≡ is_event e → P) → (b ≡ false → s ≡ is_event e → P) → P
 tested true r s e P same yes-so no-so = yes-so refl same
 tested false r s e P same yes-so no-so = no-so refl same
 
 passed : (b : Bool) (r : Answer) (e : Event) → cond b r (Err NoEvent) ≡ is_event e → (b ≡ true) × (r ≡ is_event e)
-passed b r e same = tested b r (Err NoEvent) e _ same (λ is so. (is, so)) (λ is so. absurd (err_ok NoEvent e so))
+passed b r e same = tested b r (Err NoEvent) e _ same (λ is so. (is, so)) (λ is so. absurd cc)
 
 closed_as_is : (x e : Event) (ms : List Mark) → closed_as x ms ≡ is_event e → (x ≡ e) × (ms ≡ closing ∷ [])
-closed_as_is x e ms same = let p = passed (closes ms) (Ok x) e same in (ok_same x e p.1, closes_is ms p.0)
+closed_as_is x e ms same = let p = passed (closes ms) (Ok x) e same in (cc (p.1), closes_is ms p.0)
 
 and_then_is : {A B : Type 0} (o : Option A) (f : A → Option B) (y : B) → and_then o f ≡ Some y → (x : A) × (o ≡ Some x) × (f x ≡ Some y)
-and_then_is None f y same = absurd (none_some y same)
+and_then_is None f y same = absurd cc
 and_then_is (Some x) f y same = (x, refl, same)
 
 labelled_is : (id : ℕ) (o : Option (List ℕ)) (ms : List Mark) (e : Event) → first_name ms ≡ o → labelled id o (later ms) ≡ is_event e → (label : List ℕ) × (m : Mark) × (ms ≡ m ∷ closing ∷ []) × Labels m label × (process_task id label ≡ e)
-labelled_is id None ms e is same = absurd (err_ok NoEvent e same)
+labelled_is id None ms e is same = absurd cc
 labelled_is id (Some label) ms e is same =
     let named = name_is ms label is in
     let closed = closed_as_is (process_task id label) e (later ms) same in
     (label, named.0, named.1 ∙ ap (λ (rest : List Mark). named.0 ∷ rest) closed.1, named.2, closed.0)
 
 polled_is : (o : Option ℕ) (ms : List Mark) (e : Event) → polled o ms ≡ is_event e → (id : ℕ) × (label : List ℕ) × (m : Mark) × (o ≡ Some id) × (ms ≡ m ∷ closing ∷ []) × Labels m label × (process_task id label ≡ e)
-polled_is None ms e same = absurd (err_ok NoId e same)
+polled_is None ms e same = absurd cc
 polled_is (Some id) ms e same =
     let rest = labelled_is id (first_name ms) ms e refl same in
     (id, rest.0, rest.1, refl, rest.2, rest.3, rest.4)
 
 asked_is : (o : Option ℤ) (ms : List Mark) (e : Event) → asked o ms ≡ is_event e → (value : ℤ) × (o ≡ Some value) × (ms ≡ closing ∷ []) × (stop value ≡ e)
-asked_is None ms e same = absurd (err_ok NoValue e same)
+asked_is None ms e same = absurd cc
 asked_is (Some value) ms e same = let closed = closed_as_is (stop value) e ms same in (value, refl, closed.1, closed.0)
 
 -- the poll of a task, after its name
@@ -100,7 +89,7 @@ event_said name ms e same =
     (λ _ so. let p = passed (bytes_eq name (codes "stopped")) (closed_as stopped ms) e so in by_name name (codes "stopped") ms e p.0 (stopped_said ms e p.1)))
 
 named_said : (o : Option (List ℕ)) (ms : List Mark) (e : Event) → first_word ms ≡ o → event_named o (later ms) ≡ is_event e → Says e (opening ∷ ms)
-named_said None ms e is same = absurd (err_ok NoEvent e same)
+named_said None ms e is same = absurd cc
 named_said (Some name) ms e is same = subst (λ (ks : List Mark). Says e (opening ∷ ks)) (sym (word_is ms name is)) (event_said name (later ms) e same)
 
 read_said : (ms : List Mark) (e : Event) → event_in ms ≡ is_event e → Says e ms

@@ -7,10 +7,9 @@ ghost use Rattle.event_lines.specs.Told.{audited, digest_by, lines_of, told_by, 
 ghost use Rattle.event_lines.specs.Views.{meant};
 
 use crate::event::{Event, Misread, Trouble};
-use crate::hex::hex;
 use crate::reader::read_event;
 use auditor::{Auditor, Digest};
-use lines::split_line;
+use lines::{Lines, Unended};
 use std::alloc::{AllocError, Global};
 
 // What is told, and the first line that is no event.
@@ -35,8 +34,9 @@ fn tell(auditor: &mut Auditor, event: Event<'_>)
 fn push_line(text: &mut Vec<u8>, digest: Digest, line: &[u8]) -> Result<(), AllocError>
     ensures { OnOk result (text.new.items ≡ text.old.items ++ told_line digest line.now) }
 {
-    text.extend_from_slice(&hex(digest))?;
-    text.extend_from_slice(b"  ")?;
+    let [a, b, c, d] = digest;
+    let told = format!(in *text.allocator(); "{a:02x}{b:02x}{c:02x}{d:02x}  ")?;
+    text.extend_from_slice(told.as_bytes())?;
     text.extend_from_slice(line)?;
     text.push(b'\n')?;
     Ok(())
@@ -62,41 +62,22 @@ fn audit_line(
     }
 }
 
-// The next line and the bytes after it; the last line may lack its LF.
-fn next_line(bytes: &[u8]) -> Option<(&[u8], &[u8])>
-    ensures cases { MatchOption result (lines_of bytes.now ≡ []) (λ p. lines_of bytes.now ≡ p.0.now ∷ lines_of p.1.now) }
-    ensures shorter { IfSome result (λ p. length p.1.now < length bytes.now) }
-{
-    if let Some(cut) = split_line(bytes) {
-        return Some(cut);
-    }
-    if bytes.is_empty() {
-        return None;
-    }
-    Some((bytes, &[]))
-}
-
-// What the audit tells of the whole input: a line for each event, up to the first line that is none.
+// What the audit tells of the whole input: a line for each event, up to the first line that is none. The last line may
+// lack its LF.
 pub fn audit_input(heap: Global, input: &[u8]) -> Result<Audited, AllocError>
     ensures { IfOk result (λ a. outcome_of a ≡ audited input.now) }
 {
     let mut auditor = Auditor::new();
     let mut text = Vec::new(heap);
-    let mut rest = input;
-    let mut line_number: usize = 1;
-    while let Some((line, after)) = next_line(rest) {
+    for (i, line) in Lines::new(input).enumerate() {
+        let line = line.unwrap_or_else(|Unended(last)| last);
         if let Some(trouble) = audit_line(&mut auditor, &mut text, line)? {
-            let misread = Misread {
-                line: line_number,
+            let misread = Some(Misread {
+                line: i + 1,
                 trouble,
-            };
-            return Ok(Audited {
-                text,
-                misread: Some(misread),
             });
+            return Ok(Audited { text, misread });
         }
-        rest = after;
-        line_number += 1;
     }
     Ok(Audited {
         text,

@@ -1,6 +1,6 @@
 // An event as a line says it. A label is a part of the line's own bytes.
 
-#[derive(Clone, Copy)]
+#[derive(Clone, Copy, PartialEq, Eq, Debug)]
 pub enum Event<'a> {
     // The task of this id and label is polled.
     ProcessTask(u64, &'a [u8]),
@@ -11,7 +11,7 @@ pub enum Event<'a> {
 }
 
 // What is wrong with a line that is no event.
-#[derive(Clone, Copy)]
+#[derive(Clone, Copy, PartialEq, Eq, Debug)]
 pub enum Trouble {
     // It is none of the three forms.
     NoEvent,
@@ -22,7 +22,7 @@ pub enum Trouble {
 }
 
 // The first line that is no event; lines count from 1.
-#[derive(Clone, Copy)]
+#[derive(Clone, Copy, PartialEq, Eq, Debug)]
 pub struct Misread {
     pub line: usize,
     pub trouble: Trouble,

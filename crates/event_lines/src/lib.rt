@@ -3,6 +3,5 @@
 
 pub mod audit;
 pub mod event;
-mod hex;
 pub mod reader;
 pub mod wrong;

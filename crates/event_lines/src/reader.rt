@@ -11,8 +11,7 @@ ghost use Rattle.event_lines.specs.Views.{answered, meant};
 
 use crate::event::{Event, Trouble};
 use tokens::cursor::Tokens;
-use tokens::number::{read_i32, read_u64};
-use tokens::same::same_bytes;
+use tokens::number::Numeral;
 
 // The event, if the form closes here and ends the line.
 fn closed<'a>(tokens: &mut Tokens<'a>, event: Event<'a>) -> Result<Event<'a>, Trouble>
@@ -25,34 +24,21 @@ fn closed<'a>(tokens: &mut Tokens<'a>, event: Event<'a>) -> Result<Event<'a>, Tr
     }
 }
 
-// The id that comes next, if it is one.
-fn next_id(tokens: &mut Tokens<'_>) -> Option<u64>
-    ensures answer { result ≡ and_then (first_number (ahead tokens.old)) (natural_of 64) }
+// The number that comes next, if it is one of its type.
+fn next_number<T: Numeral>(tokens: &mut Tokens<'_>) -> Option<T>
+    ensures answer { result ≡ and_then (first_number (ahead tokens.old)) T.reading }
     ensures state { ahead tokens.new ≡ later (ahead tokens.old) }
 {
     let digits = tokens.number()?;
-    read_u64(digits).ok()
-}
-
-// The stop value that comes next, if it is one.
-fn next_value(tokens: &mut Tokens<'_>) -> Option<i32>
-    ensures answer { result ≡ and_then (first_number (ahead tokens.old)) (integer_of 32) }
-    ensures state { ahead tokens.new ≡ later (ahead tokens.old) }
-{
-    let digits = tokens.number()?;
-    read_i32(digits).ok()
+    T::read(digits).ok()
 }
 
 // The poll of a task: its id and its label.
 fn read_poll<'a>(tokens: &mut Tokens<'a>) -> Result<Event<'a>, Trouble>
     ensures { answered result ≡ polled (and_then (first_number (ahead tokens.old)) (natural_of 64)) (later (ahead tokens.old)) }
 {
-    let Some(id) = next_id(tokens) else {
-        return Err(Trouble::NoId);
-    };
-    let Some(label) = tokens.name() else {
-        return Err(Trouble::NoEvent);
-    };
+    let id = next_number(tokens).ok_or(Trouble::NoId)?;
+    let label = tokens.name().ok_or(Trouble::NoEvent)?;
     closed(tokens, Event::ProcessTask(id, label))
 }
 
@@ -60,26 +46,23 @@ fn read_poll<'a>(tokens: &mut Tokens<'a>) -> Result<Event<'a>, Trouble>
 fn read_stop<'a>(tokens: &mut Tokens<'a>) -> Result<Event<'a>, Trouble>
     ensures { answered result ≡ asked (and_then (first_number (ahead tokens.old)) (integer_of 32)) (later (ahead tokens.old)) }
 {
-    let Some(value) = next_value(tokens) else {
-        return Err(Trouble::NoValue);
-    };
+    let value = next_number(tokens).ok_or(Trouble::NoValue)?;
     closed(tokens, Event::Stop(value))
 }
 
-// The event of a name.
+// The event of a name. Comparisons, since a `match` on the names was tried and its last arm did not close.
 fn read_named<'a>(name: &[u8], tokens: &mut Tokens<'a>) -> Result<Event<'a>, Trouble>
     ensures { answered result ≡ event_by name.now (ahead tokens.old) }
 {
-    if same_bytes(name, b"process_task") {
-        return read_poll(tokens);
+    if name == b"process_task".as_slice() {
+        read_poll(tokens)
+    } else if name == b"stop".as_slice() {
+        read_stop(tokens)
+    } else if name == b"stopped".as_slice() {
+        closed(tokens, Event::Stopped)
+    } else {
+        Err(Trouble::NoEvent)
     }
-    if same_bytes(name, b"stop") {
-        return read_stop(tokens);
-    }
-    if same_bytes(name, b"stopped") {
-        return closed(tokens, Event::Stopped);
-    }
-    Err(Trouble::NoEvent)
 }
 
 // The event that the tokens of a line are.
@@ -89,9 +72,7 @@ fn read_tokens<'a>(tokens: &mut Tokens<'a>) -> Result<Event<'a>, Trouble>
     if !tokens.opens() {
         return Err(Trouble::NoEvent);
     }
-    let Some(name) = tokens.word() else {
-        return Err(Trouble::NoEvent);
-    };
+    let name = tokens.word().ok_or(Trouble::NoEvent)?;
     read_named(name, tokens)
 }
 

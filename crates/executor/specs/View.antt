@@ -1,5 +1,5 @@
 -- What an executor stands for.
-use Rattle.model.specs.Model.{Model}
+use Rattle.deterministic.specs.Model.{Model}
 use Rattle.state.specs.View as state
 use Rattle.executor.specs.declared.Executor.{Executor}
 

@@ -1,15 +1,16 @@
 // Who runs the bodies of the tasks.
 ghost use Rattle.std.specs.Prelude.{◌≡◌, ℕ};
-ghost use Rattle.model.specs.Model.{Model};
-ghost use Rattle.model.specs.Calls.{apply};
-ghost use Rattle.model.specs.Rules.{Turn};
+ghost use Rattle.deterministic.specs.Model.{Model};
+ghost use Rattle.deterministic.specs.Calls.{apply};
+ghost use Rattle.deterministic.specs.Rules.{Turn};
 ghost use Rattle.executor.specs.View.{view};
 
 use crate::Executor;
-use model::outcome::Outcome;
+use deterministic::outcome::Outcome;
 
 // What a crew does is told by its value alone: from value, id and executor the rule gives the value after a call of the task's
-// body, the calls that the body makes in their order, refused ones too, and what it comes to.
+// body, the calls that the body makes in their order, refused ones too, and what it comes to. (The Crew of the definitions as its
+// supertrait was tried: the type of `value` cannot name a supertrait's member.)
 pub trait Crew {
     ghost Value: { Type 0 };
 

@@ -1,6 +1,6 @@
 // How a run hands its state to a body, and gets it back.
 ghost use Rattle.std.specs.Prelude.{◌≡◌};
-ghost use Rattle.model.specs.Bounds.{Sound, Calm, Spare};
+ghost use Rattle.bounds.specs.Kept.{Bounded};
 ghost use Rattle.state.specs.View.{view as seen};
 ghost use Rattle.executor.specs.View.{view};
 
@@ -10,9 +10,7 @@ use state::State;
 impl Executor {
     // The executor over a state that keeps within its bounds.
     pub fn over(state: State) -> Executor
-        requires sound { Sound (seen state) }
-        requires calm { Calm (seen state) }
-        requires spare { Spare (seen state) }
+        requires bounded { Bounded (seen state) }
         ensures state { view result ≡ seen state }
     {
         Executor { state }
@@ -21,9 +19,7 @@ impl Executor {
     // The state, which keeps within its bounds whatever the body did.
     pub fn into_state(self) -> State
         ensures state { seen result ≡ view self }
-        ensures sound { Sound (seen result) }
-        ensures calm { Calm (seen result) }
-        ensures spare { Spare (seen result) }
+        ensures bounded { Bounded (seen result) }
     {
         let Executor { state } = self;
         state

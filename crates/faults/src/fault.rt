@@ -1,22 +1,22 @@
 // Where and why a script is refused.
 ghost use Rattle.std.specs.Prelude.{◌≡◌};
-ghost use Rattle.faults.specs.Faults.{number_of, layer_of};
+ghost use Rattle.faults.specs.Faults.{at, number_of, layer_of};
 
-// What is wrong with a script, by the number that its refusal has.
-#[derive(Clone, Copy)]
+// What is wrong with a script, by the number that its refusal has: those of calls come before, from 1 to 17.
+#[derive(Clone, Copy, Debug, PartialEq, Eq)]
 pub enum Reason {
     // More bytes than a script may have.
-    TooLong,
+    TooLong = 18,
     // A line that is no form, or one out of its place.
-    NoForm,
+    NoForm = 19,
     // A task too many, or a step too many in a task.
-    TooMany,
+    TooMany = 20,
     // A name given twice or never, or no root.
-    Name,
+    Name = 21,
 }
 
 // The part of the program that refuses.
-#[derive(Clone, Copy)]
+#[derive(Clone, Copy, Debug, PartialEq, Eq)]
 pub enum Layer {
     Reader,
     Script,
@@ -24,25 +24,21 @@ pub enum Layer {
 }
 
 // Lines count from 1; line 0 belongs to the script as a whole.
-#[derive(Clone, Copy)]
+#[derive(Clone, Copy, Debug, PartialEq, Eq)]
 pub struct Fault {
     pub line: usize,
     pub reason: Reason,
 }
 
 impl Reason {
-    // The number that the refusal has: those of calls come before, from 1 to 17.
-    pub fn number(self) -> u8
-        ensures { result ≡ number_of self }
+    // The refusal at a line for this reason.
+    pub fn at(self, line: usize) -> Fault
+        ensures { result ≡ at line self }
     {
-        match self {
-            Reason::TooLong => 18,
-            Reason::NoForm => 19,
-            Reason::TooMany => 20,
-            Reason::Name => 21,
-        }
+        Fault { line, reason: self }
     }
 
+    // A method, and no conversion: a layer is not the reason in another form.
     // Bytes and lines are refused by the reader, what they say together by the script's rules.
     pub fn layer(self) -> Layer
         ensures { result ≡ layer_of self }
@@ -51,5 +47,14 @@ impl Reason {
             Reason::TooLong | Reason::NoForm => Layer::Reader,
             Reason::TooMany | Reason::Name => Layer::Script,
         }
+    }
+}
+
+// The number that the refusal has.
+impl From<Reason> for u8 {
+    ghost from_gives = { λ reason number. number ≡ number_of reason };
+
+    fn from(reason: Reason) -> u8 {
+        reason as u8
     }
 }

@@ -7,9 +7,10 @@ use crate::fault::{Fault, Layer};
 use std::fmt;
 
 // What is told of a refusal: the script's line, its number and who refused.
-#[derive(Clone, Copy)]
+#[derive(Clone, Copy, Debug, PartialEq, Eq)]
 pub struct FaultLine {
     pub line: usize,
+    // The number as it is told: the refusals of scripts and of calls have no enum in common that would say it plainer.
     pub number: u8,
     pub layer: Layer,
 }
@@ -20,7 +21,7 @@ impl From<Fault> for FaultLine {
     fn from(fault: Fault) -> FaultLine {
         FaultLine {
             line: fault.line,
-            number: fault.reason.number(),
+            number: fault.reason.into(),
             layer: fault.reason.layer(),
         }
     }
@@ -42,9 +43,11 @@ impl fmt::Display for FaultLine {
     ghost output = { λ l. Some (fault_line l) };
 
     fn fmt<W: fmt::Write>(&self, f: &mut fmt::Formatter<W>) -> fmt::Result {
-        let line = self.line;
-        let number = self.number;
-        let layer = self.layer;
+        let FaultLine {
+            line,
+            number,
+            layer,
+        } = *self;
         write!(f, "(fault {line} {number} {layer})")
     }
 }

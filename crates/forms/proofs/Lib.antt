@@ -1,2 +1,3 @@
 mod Acts
+mod Keywords
 mod Lines

@@ -6,7 +6,7 @@ use std::alloc::{AllocError, AllocFailed};
 use tokens::token::LineFault;
 
 // The line is no form, or its steps found no memory; which line it is, the reader of the whole script knows.
-#[derive(Clone, Copy)]
+#[derive(Clone, Copy, Debug, PartialEq, Eq)]
 pub enum FormFault {
     NoForm,
     Memory,

@@ -2,7 +2,6 @@
 ghost use Rattle.std.specs.Prelude.{◌≡◌};
 ghost use Rattle.std.specs.Option.{option_map, ok_or};
 ghost use Rattle.tokens.specs.Cursor.{ahead, later, mark_of};
-ghost use Rattle.tokens.specs.Numbers.{natural_of, integer_of};
 ghost use Rattle.tokens.specs.declared.token.LineFault.TheVariants.{NoForm};
 ghost use Rattle.forms.specs.Forms.{name_in, digits_in, bind, bare_act, act_with};
 ghost use Rattle.forms.specs.Steps.{act_by, ends_step, argument_in, after_argument, step_in, after_step, next_in, after_next};
@@ -10,8 +9,7 @@ ghost use Rattle.forms.specs.Views.{acted, argued, stepped, worded};
 
 use crate::form::Step;
 use tokens::cursor::Tokens;
-use tokens::number::{read_i32, read_i64, read_u32, read_u64};
-use tokens::same::same_bytes;
+use tokens::number::Numeral;
 use tokens::token::{LineFault, Token};
 
 // The name that a token is: a word, or what looks like a number.
@@ -34,42 +32,20 @@ fn digits_in<'a>(token: Token<'a>) -> Result<&'a [u8], LineFault>
     }
 }
 
-// The nanoseconds of a sleep.
-fn time_in(token: Token<'_>) -> Result<u64, LineFault>
-    ensures { result ≡ ok_or (bind (digits_in (mark_of token.entry)) (natural_of 64)) NoForm }
+// The number that a token is, where it fits what it fills.
+fn number_in<T: Numeral>(token: Token<'_>) -> Result<T, LineFault>
+    ensures { result ≡ ok_or (bind (digits_in (mark_of token.entry)) T.reading) NoForm }
 {
-    read_u64(digits_in(token)?)
-}
-
-// The value of a stop.
-fn value_in(token: Token<'_>) -> Result<i32, LineFault>
-    ensures { result ≡ ok_or (bind (digits_in (mark_of token.entry)) (integer_of 32)) NoForm }
-{
-    read_i32(digits_in(token)?)
-}
-
-// The output of a task that is done.
-fn output_in(token: Token<'_>) -> Result<i64, LineFault>
-    ensures { result ≡ ok_or (bind (digits_in (mark_of token.entry)) (integer_of 64)) NoForm }
-{
-    read_i64(digits_in(token)?)
-}
-
-// The code of a fault.
-fn code_in(token: Token<'_>) -> Result<u32, LineFault>
-    ensures { result ≡ ok_or (bind (digits_in (mark_of token.entry)) (natural_of 32)) NoForm }
-{
-    read_u32(digits_in(token)?)
+    T::read(digits_in(token)?)
 }
 
 // The step that a keyword is by itself.
 fn bare_step<'a>(keyword: &[u8]) -> Result<Step<'a>, LineFault>
     ensures { acted result ≡ ok_or (bare_act keyword.now) NoForm }
 {
-    if same_bytes(keyword, b"await") {
-        Ok(Step::Await)
-    } else {
-        Err(LineFault::NoForm)
+    match keyword {
+        b"await" => Ok(Step::Await),
+        _ => Err(LineFault::NoForm),
     }
 }
 
@@ -77,38 +53,26 @@ fn bare_step<'a>(keyword: &[u8]) -> Result<Step<'a>, LineFault>
 fn step_with<'a>(keyword: &[u8], argument: Token<'a>) -> Result<Step<'a>, LineFault>
     ensures { acted result ≡ ok_or (act_with keyword.now (mark_of argument.entry)) NoForm }
 {
-    if same_bytes(keyword, b"sleep") {
-        return Ok(Step::Sleep(time_in(argument)?));
+    match keyword {
+        b"sleep" => Ok(Step::Sleep(number_in(argument)?)),
+        b"spawn" => Ok(Step::Spawn(name_in(argument)?)),
+        b"wake" => Ok(Step::Wake(name_in(argument)?)),
+        b"abort" => Ok(Step::Abort(name_in(argument)?)),
+        b"stop" => Ok(Step::Stop(number_in(argument)?)),
+        b"done" => Ok(Step::Done(number_in(argument)?)),
+        b"fault" => Ok(Step::Fault(number_in(argument)?)),
+        _ => Err(LineFault::NoForm),
     }
-    if same_bytes(keyword, b"spawn") {
-        return Ok(Step::Spawn(name_in(argument)?));
-    }
-    if same_bytes(keyword, b"wake") {
-        return Ok(Step::Wake(name_in(argument)?));
-    }
-    if same_bytes(keyword, b"abort") {
-        return Ok(Step::Abort(name_in(argument)?));
-    }
-    if same_bytes(keyword, b"stop") {
-        return Ok(Step::Stop(value_in(argument)?));
-    }
-    if same_bytes(keyword, b"done") {
-        return Ok(Step::Done(output_in(argument)?));
-    }
-    if same_bytes(keyword, b"fault") {
-        return Ok(Step::Fault(code_in(argument)?));
-    }
-    Err(LineFault::NoForm)
 }
 
 // The step that a keyword is, with an argument or by itself.
 fn step_by<'a>(keyword: &[u8], argument: Option<Token<'a>>) -> Result<Step<'a>, LineFault>
     ensures { acted result ≡ ok_or (act_by keyword.now (option_map mark_of argument.entry)) NoForm }
 {
-    let Some(argument) = argument else {
-        return bare_step(keyword);
-    };
-    step_with(keyword, argument)
+    match argument {
+        None => bare_step(keyword),
+        Some(argument) => step_with(keyword, argument),
+    }
 }
 
 // Whether the bracket that closes a step comes next.
@@ -124,19 +88,10 @@ fn read_argument<'a>(tokens: &mut Tokens<'a>) -> Result<Option<Token<'a>>, LineF
     ensures answer { argued result ≡ ok_or (argument_in (ahead tokens.old)) NoForm }
     ensures state { ahead tokens.new ≡ after_argument (ahead tokens.old) }
 {
-    let Some(token) = tokens.next()? else {
-        return Err(LineFault::NoForm);
-    };
-    match token {
-        Token::Open => Err(LineFault::NoForm),
-        Token::Close => Ok(None),
-        Token::Word(_) | Token::Number(_) => {
-            if ends_step(tokens) {
-                Ok(Some(token))
-            } else {
-                Err(LineFault::NoForm)
-            }
-        }
+    match tokens.next()? {
+        Some(Token::Close) => Ok(None),
+        Some(token @ (Token::Word(_) | Token::Number(_))) if ends_step(tokens) => Ok(Some(token)),
+        _ => Err(LineFault::NoForm),
     }
 }
 
@@ -145,9 +100,7 @@ fn read_step<'a>(tokens: &mut Tokens<'a>) -> Result<Step<'a>, LineFault>
     ensures answer { acted result ≡ ok_or (step_in (ahead tokens.old)) NoForm }
     ensures state { ahead tokens.new ≡ after_step (ahead tokens.old) }
 {
-    let Some(keyword) = tokens.word() else {
-        return Err(LineFault::NoForm);
-    };
+    let keyword = tokens.word().ok_or(LineFault::NoForm)?;
     let argument = read_argument(tokens)?;
     step_by(keyword, argument)
 }
@@ -158,17 +111,8 @@ pub fn next_step<'a>(tokens: &mut Tokens<'a>) -> Result<Option<Step<'a>>, LineFa
     ensures state { ahead tokens.new ≡ after_next (ahead tokens.old) }
 {
     match tokens.next()? {
-        Some(Token::Open) => {
-            let step = read_step(tokens)?;
-            Ok(Some(step))
-        }
-        Some(Token::Close) => {
-            if tokens.next()?.is_none() {
-                Ok(None)
-            } else {
-                Err(LineFault::NoForm)
-            }
-        }
+        Some(Token::Open) => Ok(Some(read_step(tokens)?)),
+        Some(Token::Close) if tokens.next()?.is_none() => Ok(None),
         _ => Err(LineFault::NoForm),
     }
 }

@@ -1,37 +1,24 @@
 -- What an answer tells of the parts that it was made from. Assumes nothing.
-use Rattle.std.proofs.Common.{◌≡◌, ℕ, Bool, true, false, cond, List, ◌∷◌, is_some, Some, None, Ok, Err, Option, Result, unwrap_or, sym, refl, ap}
+use Rattle.std.proofs.Common.{◌≡◌, ℕ, Bool, true, false, cond, List, ◌∷◌, Some, None, Ok, Err, Option, Result, sym, refl}
 use Rattle.std.specs.Option.{option_map}
 use Rattle.std.specs.Str.{bytes_eq}
 use Rattle.std.proofs.lemmas.Slice.Eq.{bytes_eq-Decides}
-use Rattle.std.proofs.lemmas.Bool.{false≢true}
 use Rattle.faults.specs.declared.fault.Fault.{Fault}
 use Rattle.forms.specs.Forms.{bind, consed}
 use Rattle.forms.specs.Meaning.{Act}
 use Rattle.grammar.specs.Reading.{and_then}
 
 pub none≢some : {A : Type 0} {x : A} → None ≡ Some x → ⊥
-none≢some {A} e = false≢true (ap (λ (o : Option A). is_some o) e)
+none≢some e = cc
 
 pub some_same : {A : Type 0} {x y : A} → Some x ≡ Some y → x ≡ y
-some_same {A} {x} e = ap (λ (o : Option A). unwrap_or o x) e
-
--- whether a result has a value
-is_fine : {A : Type 0} → Result A Fault → Bool
-is_fine (Ok x) = true
-is_fine (Err e) = false
-
--- the value of a result, or another
-fine_or : {A : Type 0} → A → Result A Fault → A
-fine_or d (Ok x) = x
-fine_or d (Err e) = d
+some_same e = cc
 
 pub err≢ok : {A : Type 0} {x : A} {e : Fault} → Err e ≡ Ok x → ⊥
-unfolding is_fine
-err≢ok {A} h = false≢true (ap (λ (r : Result A Fault). is_fine r) h)
+err≢ok h = cc
 
 pub ok_same : {A : Type 0} {x y : A} → ◌≡◌ {A = Result A Fault} (Ok x) (Ok y) → x ≡ y
-unfolding fine_or
-ok_same {A} {x} h = ap (λ (r : Result A Fault). fine_or x r) h
+ok_same h = cc
 
 pub cond_some : {A : Type 0} (t : Bool) (x y : A) → cond t (Some x) None ≡ Some y → (t ≡ true) × (x ≡ y)
 cond_some true x y h = (refl, some_same h)

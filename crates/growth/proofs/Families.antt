@@ -12,7 +12,7 @@ use Rattle.lineage.specs.Deaths.{mourned, buried, doomed, one_dies, repeated, se
 use Rattle.lineage.specs.Cascade.{Step, condemned, passed, struck, step_at, step, walk, cascaded}
 use Rattle.supervision.specs.Calls.{with_child, seated, closed}
 use Rattle.supervision.proofs.Solid.{tidied_by}
-use Rattle.growth.proofs.Counts.{weight, counted, NeverGains, Keeps, Ends, counted_map, counted_push, counted_change, counted_change_same, counted_without, passes, counted_ended, passes_change, passes_push}
+use Rattle.deterministic.proofs.Countings.{weight, counted, NeverGains, Keeps, Ends, counted_map, counted_push, counted_change, counted_change_same, counted_without, passes, counted_ended, passes_change, passes_push}
 
 -- the test looks neither at the flag nor at the count of dead children
 pub record Steady (test : Node → Bool) : Type 0 where

@@ -10,9 +10,9 @@ use Rattle.lineage.specs.Cascade.{cascaded}
 use Rattle.supervision.specs.Sound.{seats_with}
 use Rattle.supervision.specs.Calls.{with_child, seated, closed, closed_all, left}
 use Rattle.supervision.proofs.Ages.{next_settled, next_cascaded, next_born}
-use Rattle.model.specs.Bounds.{open_contexts}
+use Rattle.deterministic.specs.Bounds.{open_contexts}
 use Rattle.growth.specs.Grows.{Grows}
-use Rattle.growth.proofs.Counts.{counted, NeverGains, keeps_gains_none, ends_gains_none, either_gains_none}
+use Rattle.deterministic.proofs.Countings.{counted, NeverGains, keeps_gains_none, ends_gains_none, either_gains_none}
 use Rattle.growth.proofs.Families.{Steady, among_cascaded, among_mapped, among_closed, among_closed_held, among_child, among_seated, among_seated_held}
 
 -- the context of the node is open

@@ -8,7 +8,7 @@ use Rattle.lineage.specs.Family.{Family, open_for}
 use Rattle.lineage.specs.Cascade.{cascaded}
 use Rattle.supervision.specs.Sound.{seats_with}
 use Rattle.supervision.specs.Calls.{with_child, seated, closed, closed_all, left}
-use Rattle.model.specs.Bounds.{open_contexts}
+use Rattle.deterministic.specs.Bounds.{open_contexts}
 
 -- what becomes of the three numbers of the tree F
 pub record Grows (F : Family) : Type 0 where

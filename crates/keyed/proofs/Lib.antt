@@ -2,8 +2,11 @@ pub mod Orders
 pub mod Places
 pub mod Finds
 pub mod Members
+pub mod Views
 pub mod Maps
 pub mod Searches
 pub mod Counts
 pub mod Lawful
 pub mod Answers
+pub mod Halves
+pub mod Tables

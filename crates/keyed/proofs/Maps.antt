@@ -1,10 +1,12 @@
 -- A list of records in which each is changed and keeps its key.
 use Rattle.std.proofs.Common.{◌≡◌, ℕ, suc, Bool, true, false, cond, ◌&&◌, ◌||◌, eqb, leb, List, [], ◌∷◌, map, is_some, Some, None, Option, refl, ap, ◌∙◌}
+use Rattle.std.specs.List.{AllZip}
 use Rattle.std.specs.Option.{option_map}
 use Rattle.std.proofs.lemmas.Bool.{false≢true}
 use Rattle.keyed.specs.Keyed.{ordered, find, change}
 use Rattle.keyed.specs.Members.{any}
 use Rattle.keyed.proofs.Finds.{on}
+use Rattle.keyed.proofs.Views.{find_view, ordered_view}
 
 pub is_some_mapped : {X Y : Type 0} (g : X → Y) (o : Option X) → is_some (option_map g o) ≡ is_some o
 is_some_mapped g None = refl
@@ -32,11 +34,23 @@ module _ {X : Type 0} (key : X → ℕ) where
 
   module _ (g : X → X) (same : (x : X) → key (g x) ≡ key x) where
     pub find_map : (k : ℕ) (xs : List X) → find key k (map g xs) ≡ option_map g (find key k xs)
-    find_map k [] = refl
-    find_map k (x ∷ xs) =
-        let rest = find_map k xs in
-        rw (same x) (elim (eqb (key x) k) as (λ b. cond b (Some (g x)) (find key k (map g xs)) ≡ option_map g (cond b (Some x) (find key k xs))) [ true ↦ refl | false ↦ rest ])
+    find_map = find_view g key key same
 
     pub ordered_map : (lo hi : ℕ) (xs : List X) → ordered key lo hi (map g xs) ≡ ordered key lo hi xs
-    ordered_map lo hi [] = refl
-    ordered_map lo hi (x ∷ xs) = rw (same x) (ap (λ b. leb lo (key x) && b) (ordered_map (suc (key x)) hi xs))
+    ordered_map = ordered_view g key key same
+
+-- a list in which each element is changed by a step
+module _ {X : Type 0} (R : X → X → Type 0) where
+  -- what the step makes of an element is f of it
+  pub zipped_map : (f : X → X) → ((x y : X) → R x y → y ≡ f x) → (xs ys : List X) → AllZip R xs ys → ys ≡ map f xs
+  zipped_map f gives [] [] h = refl
+  zipped_map f gives [] (y ∷ ys) h = absurd h
+  zipped_map f gives (x ∷ xs) [] h = absurd h
+  zipped_map f gives (x ∷ xs) (y ∷ ys) h = cc (gives x y h.0, zipped_map f gives xs ys h.1)
+
+  -- the step leaves the key
+  pub ordered_zipped : (key : X → ℕ) → ((x y : X) → R x y → key y ≡ key x) → (lo hi : ℕ) (xs ys : List X) → AllZip R xs ys → ordered key lo hi ys ≡ ordered key lo hi xs
+  ordered_zipped key same lo hi [] [] h = refl
+  ordered_zipped key same lo hi [] (y ∷ ys) h = absurd h
+  ordered_zipped key same lo hi (x ∷ xs) [] h = absurd h
+  ordered_zipped key same lo hi (x ∷ xs) (y ∷ ys) h = rw (same x y h.0) (ap (λ b. leb lo (key x) && b) (ordered_zipped key same (suc (key x)) hi xs ys h.1))

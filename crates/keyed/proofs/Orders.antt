@@ -39,9 +39,6 @@ module _ {X : Type 0} (key : X → ℕ) where
   pub ordered_push : (lo hi : ℕ) (xs : List X) (x : X) → ordered key lo hi xs ≡ true → key x ≡ hi → ordered key lo (hi + 1) (xs ++ x ∷ []) ≡ true
   ordered_push lo hi xs x o e = ordered_push_above lo hi (hi + 1) xs x o (omega arith) (omega arith)
 
-  pub ordered_pushed : (lo hi : ℕ) (xs ys : List X) (x : X) → ordered key lo hi xs ≡ true → key x ≡ hi → ys ≡ xs ++ x ∷ [] → ordered key lo (hi + 1) ys ≡ true
-  ordered_pushed lo hi xs ys x o e is = rw is (ordered_push lo hi xs x o e)
-
   -- a change that leaves the key
   pub ordered_change : (f : X → X) → ((x : X) → key (f x) ≡ key x) → (lo hi k : ℕ) (xs : List X) → ordered key lo hi xs ≡ true → ordered key lo hi (change key f k xs) ≡ true
   ordered_change f same lo hi k [] o = o

@@ -1,40 +1,19 @@
--- A loop that looks for an element that passes a test.
-use Rattle.std.proofs.Common.{◌≡◌, ℕ, ◌+◌, ◌<◌, ◌≤◌, Bool, true, false, cond, ◌||◌, ◌⊎◌, List, [], ◌∷◌, ◌++◌, length, get_or, drop, Some, None, filter, sym, refl, ap, ◌∙◌, inl, inr}
-use Rattle.std.proofs.lemmas.List.{at_drop_more, at_drop_all}
+-- Whether some element of a list passes a test, and the first that does.
+use Rattle.std.proofs.Common.{◌≡◌, Bool, true, false, ◌⊎◌, List, [], ◌∷◌, ◌++◌, Some, None, Option, filter, sym, refl, ap, ◌∙◌, inl, inr}
 use Rattle.std.proofs.lemmas.Bool.{cases_Bool, or_left, or_right, or_cases, or_parts, or_from, false≢true}
+use denote.Param.Members.{Mut}
+use denote.Ref.{Bor}
+use Rattle.std.specs.Fn.{Called, CalledAt}
+use Rattle.std.specs.Iterator.{ChecksAny, FindsItem}
+use Rattle.std.specs.Option.{option_copied}
+use Rattle.std.specs.Slice.Iter.{iter_rest}
+use Rattle.std.specs.declared.slice.Iter.{Iter}
+use Rattle.std.proofs.iter.Yields.{fronts}
+use Rattle.std.proofs.lemmas.Iterator.{YieldsList-from_slice}
+use Rattle.std.proofs.lemmas.Iterator.Search.{any_from_yields_List, find_from_yields_List}
 use Rattle.keyed.specs.Members.{In, any, first}
 use Rattle.keyed.proofs.Finds.{some_not_none}
 use Rattle.keyed.proofs.Members.{in_left, in_right, in_parts, in_kept, in_unkept}
-
--- F gives what is found of the first element that passes the test; xs is the slice that the loop
--- goes over, ys the list that the contract speaks of, and i the place
-module _ {X Y : Type 0} (F : List X → Y) (test : X → Bool) (found : X → Y) (more : (x : X) (xs : List X) → F (x ∷ xs) ≡ cond (test x) (found x) (F xs)) (xs ys : List X) (same : xs ≡ ys) (i : ℕ) (so_far : F (drop i ys) ≡ F ys) where
-  step : (d : X) → i < length xs → F (drop i ys) ≡ cond (test (get_or xs i d)) (found (get_or xs i d)) (F (drop (i + 1) ys))
-  step d h = ap (λ (l : List X). F (drop i l)) (sym same) ∙ (at_drop_more F xs i d h ∙ (more (get_or xs i d) (drop (i + 1) xs) ∙ ap (λ (l : List X). cond (test (get_or xs i d)) (found (get_or xs i d)) (F (drop (i + 1) l))) same))
-
-  pub search_hit : (d : X) → i < length xs → test (get_or xs i d) ≡ true → F ys ≡ found (get_or xs i d)
-  search_hit d h t = sym so_far ∙ (step d h ∙ ap (λ b. cond b (found (get_or xs i d)) (F (drop (i + 1) ys))) t)
-
-  pub search_miss : (d : X) → i < length xs → test (get_or xs i d) ≡ false → F (drop (i + 1) ys) ≡ F ys
-  search_miss d h t = sym (step d h ∙ ap (λ b. cond b (found (get_or xs i d)) (F (drop (i + 1) ys))) t) ∙ so_far
-
-  pub search_missed : length xs ≤ i → F ys ≡ F []
-  search_missed h = sym so_far ∙ rw same at (at_drop_all F xs i h)
-
-or_is : (x y : Bool) → (x || y) ≡ cond x true y
-or_is true y = refl
-or_is false y = refl
-
--- the same for whether some element passes
-module _ {X : Type 0} (test : X → Bool) (xs ys : List X) (same : xs ≡ ys) (i : ℕ) (so_far : any test (drop i ys) ≡ any test ys) where
-  pub any_hit : (d : X) → i < length xs → test (get_or xs i d) ≡ true → any test ys ≡ true
-  any_hit = search_hit (any test) test (λ _. true) (λ x l. or_is (test x) (any test l)) xs ys same i so_far
-
-  pub any_miss : (d : X) → i < length xs → test (get_or xs i d) ≡ false → any test (drop (i + 1) ys) ≡ any test ys
-  any_miss = search_miss (any test) test (λ _. true) (λ x l. or_is (test x) (any test l)) xs ys same i so_far
-
-  pub any_missed : length xs ≤ i → any test ys ≡ false
-  any_missed = search_missed (any test) test (λ _. true) (λ x l. or_is (test x) (any test l)) xs ys same i so_far
 
 -- what stands in a list and passes is seen by `any`, and the other way round
 module _ {X : Type 0} (test : X → Bool) where
@@ -109,13 +88,12 @@ module _ {X : Type 0} (test : X → Bool) where
       let w = in_any (filter keep xs) h in
       any_in w.0 xs (in_unkept keep w.0 xs w.1) w.2
 
--- the same for the first element that passes
-module _ {X : Type 0} (test : X → Bool) (xs ys : List X) (same : xs ≡ ys) (i : ℕ) (so_far : first test (drop i ys) ≡ first test ys) where
-  pub first_hit : (d : X) → i < length xs → test (get_or xs i d) ≡ true → first test ys ≡ Some (get_or xs i d)
-  first_hit = search_hit (first test) test (λ x. Some x) (λ x l. refl) xs ys same i so_far
+-- what the library's `any` and `find` answer over a slice
+module _ {X : Type 0} (test : X → Bool) {F : Type 0} {s : Iter X} {xs : List X} (u : Iter X) (f : F) where
+  pub any_answers : {g : Mut F (Bor X × Unit {0}) Bool} (r : Bool) → ChecksAny fronts g s f r u → iter_rest s ≡ xs
+      → ((x : Bor X) (b : Bool) (q : F) → Called g f (x, tt) b q → (q ≡ f) × (b ≡ test x.now)) → r ≡ any test xs
+  any_answers r ran over each = any_from_yields_List test u f r ran (YieldsList-from_slice xs over) each
 
-  pub first_miss : (d : X) → i < length xs → test (get_or xs i d) ≡ false → first test (drop (i + 1) ys) ≡ first test ys
-  first_miss = search_miss (first test) test (λ x. Some x) (λ x l. refl) xs ys same i so_far
-
-  pub first_missed : length xs ≤ i → first test ys ≡ None
-  first_missed = search_missed (first test) test (λ x. Some x) (λ x l. refl) xs ys same i so_far
+  pub first_answers : {g : Mut F (Bor (Bor X) × Unit {0}) Bool} (r : Option (Bor X)) → FindsItem fronts g s f r u → iter_rest s ≡ xs
+      → ((x : Bor X) (b : Bool) (q : F) → CalledAt g f x b q → (q ≡ f) × (b ≡ test x.now)) → option_copied r ≡ first test xs
+  first_answers r ran over each = find_from_yields_List test u f r ran (YieldsList-from_slice xs over) each

@@ -2,3 +2,4 @@ pub mod Keyed
 pub mod Members
 pub mod Laws
 pub mod Choices
+pub mod Table

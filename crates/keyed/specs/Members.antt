@@ -1,5 +1,6 @@
 -- What stands in a list, and how often.
-use Rattle.std.specs.Prelude.{◌≡◌, ℕ, ◌+◌, Bool, false, cond, ◌||◌, ◌⊎◌, List, [], ◌∷◌, Some, None, Option, ◌==◌}
+use Rattle.std.specs.Prelude.{◌≡◌, ℕ, ◌+◌, Bool, cond, ◌⊎◌, List, [], ◌∷◌, Option, ◌==◌}
+use Rattle.std.specs.List.{find, list_any}
 
 -- x stands in the list
 abbrev pub In : {X : Type 0} → X → List X → Type 0
@@ -8,13 +9,11 @@ In x (y ∷ ys) = (x ≡ y) ⊎ In x ys
 
 -- some element passes the test
 abbrev pub any : {X : Type 0} → (X → Bool) → List X → Bool
-any test [] = false
-any test (x ∷ xs) = test x || any test xs
+any = list_any
 
 -- the first element that passes the test, if one does
 abbrev pub first : {X : Type 0} → (X → Bool) → List X → Option X
-first test [] = None
-first test (x ∷ xs) = cond (test x) (Some x) (first test xs)
+first = find
 
 -- how often the number k stands in the list
 abbrev pub times : ℕ → List ℕ → ℕ

@@ -5,10 +5,10 @@ use Rattle.alarms.specs.declared.Alarm.{Alarm}
 use Rattle.alarms.specs.Order.{ordered}
 use Rattle.alarms.specs.Model.{Bells}
 use Rattle.alarms.proofs.Orders.{InOrder, ordered_placed}
-use Rattle.model.specs.Model.{Model}
-use Rattle.model.specs.Moves.{wake, register, arm, mark, pend, leave, grow, quiet, armed}
-use Rattle.model.specs.Acts.{Act, arming, all_of}
-use Rattle.model.specs.History.{same}
+use Rattle.deterministic.specs.Model.{Model}
+use Rattle.deterministic.specs.Moves.{wake, register, arm, mark, pend, leave, grow, quiet, armed}
+use Rattle.deterministic.specs.Acts.{Act, arming, all_of}
+use Rattle.deterministic.specs.History.{same}
 use Rattle.laws.specs.Story.{Did, moves, polls, skips, calls, Path, here, next}
 use Rattle.laws.proofs.AlarmsCounts.{one_most, one_none, number, number_append, number_placed, same_serial}
 

@@ -4,7 +4,7 @@ use Rattle.std.proofs.lemmas.Bool.{and_parts, eqb-true, eq-eqb, leb-true, leb-fa
 use Rattle.alarms.specs.declared.Alarm.{Alarm}
 use Rattle.alarms.specs.Model.{placed}
 use Rattle.alarms.specs.Laws.{due, later}
-use Rattle.model.specs.History.{same, count, for_at}
+use Rattle.deterministic.specs.History.{same, count, for_at}
 
 -- 1 for what passes, 0 for what does not
 abbrev pub one : Bool → ℕ

@@ -1,9 +1,9 @@
 -- The laws of alarms, of each round at its place.
 use Rattle.std.proofs.Common.{◌≡◌, ℕ, ◌+◌, ◌<◌, ◌≤◌, List, [], ◌∷◌, ◌++◌, sym, ap, ◌∙◌, subst, append-nil, arith}
 use Rattle.alarms.specs.declared.Alarm.{Alarm}
-use Rattle.model.specs.Model.{Model}
-use Rattle.model.specs.Run.{Finish}
-use Rattle.model.specs.History.{Round, over, armed, rung, same, count, for_at, Each, Silent, RingsOnce, KeptAlarm, EveryAlarmRings, OnlyArmedRing, RingsInOrder, RingsByTime}
+use Rattle.deterministic.specs.Model.{Model}
+use Rattle.deterministic.specs.Run.{Finish}
+use Rattle.deterministic.specs.History.{Round, over, armed, rung, same, count, for_at, Each, Silent, RingsOnce, KeptAlarm, EveryAlarmRings, OnlyArmedRing, RingsInOrder, RingsByTime}
 use Rattle.laws.specs.Story.{Story}
 use Rattle.laws.proofs.AlarmsCounts.{number, count_number, for_at_number, is_for, for_time, same_time}
 use Rattle.laws.proofs.AlarmsPast.{played_grew, played_struck, number_over, number_over_one, Placed}

@@ -4,7 +4,7 @@ use Rattle.std.proofs.lemmas.Bool.{and_parts, and_from, lt-ltb, cond_both, cases
 use Rattle.alarms.specs.declared.Alarm.{Alarm}
 use Rattle.alarms.specs.Order.{before, leads, unused, ordered}
 use Rattle.alarms.proofs.Orders.{first_of, before_is, before_time}
-use Rattle.model.specs.History.{same, InOrder}
+use Rattle.deterministic.specs.History.{same, InOrder}
 use Rattle.laws.proofs.AlarmsCounts.{one_none, number, same_serial, same_time}
 
 module _ (test : Alarm → Bool) where

@@ -3,10 +3,10 @@ use Rattle.std.proofs.Common.{◌≡◌, ℕ, ◌+◌, ◌≤◌, Bool, ◌⊎�
 use Rattle.std.proofs.lemmas.Bool.{cases_lt}
 use Rattle.alarms.specs.declared.Alarm.{Alarm}
 use Rattle.alarms.proofs.Orders.{InOrder}
-use Rattle.model.specs.declared.clock.Clock.{Clock}
-use Rattle.model.specs.Model.{Model}
-use Rattle.model.specs.Run.{Finish, timed_out, opened, ended}
-use Rattle.model.specs.History.{Round, over, armed, rung, same, clock_by, clock_after}
+use Rattle.deterministic.specs.declared.clock.Clock.{Clock}
+use Rattle.deterministic.specs.Model.{Model}
+use Rattle.deterministic.specs.Run.{Finish, timed_out, opened, ended}
+use Rattle.deterministic.specs.History.{Round, over, armed, rung, same, clock_by, clock_after}
 use Rattle.laws.specs.Story.{Played, Story, shut, over as last, on}
 use Rattle.laws.proofs.Story.{steps_path}
 use Rattle.laws.proofs.AlarmsCounts.{number, number_append}

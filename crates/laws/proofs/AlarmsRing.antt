@@ -2,9 +2,9 @@
 use Rattle.std.proofs.Common.{◌≡◌, ℕ, ◌+◌, Bool, true, false, List, [], ◌∷◌, ◌++◌, Option, ◌∙◌, subst, ⊎_elim, arith}
 use Rattle.std.proofs.lemmas.Bool.{cases_Bool}
 use Rattle.alarms.specs.declared.Alarm.{Alarm}
-use Rattle.model.specs.Model.{Model}
-use Rattle.model.specs.Run.{Finish}
-use Rattle.model.specs.History.{Round, over, armed, rung, reached}
+use Rattle.deterministic.specs.Model.{Model}
+use Rattle.deterministic.specs.Run.{Finish}
+use Rattle.deterministic.specs.History.{Round, over, armed, rung, reached}
 use Rattle.laws.specs.Story.{Played, Story, shut, over as last, on}
 use Rattle.laws.proofs.AlarmsCounts.{number}
 use Rattle.laws.proofs.AlarmsStruck.{OfTime}

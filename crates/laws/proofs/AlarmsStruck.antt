@@ -7,10 +7,10 @@ use Rattle.alarms.specs.declared.Alarm.{Alarm}
 use Rattle.alarms.specs.Model.{Bells}
 use Rattle.alarms.specs.Laws.{due, later}
 use Rattle.alarms.proofs.Orders as bells
-use Rattle.model.specs.Model.{Model, queued, with_alarms}
-use Rattle.model.specs.Run.{Finish, ringing, standing, rung, ticked}
-use Rattle.model.specs.History.{Close, never, out_of_time, rang, clock_at, rung_in, reached, InOrder}
-use Rattle.model.specs.Went.{jumped_to}
+use Rattle.deterministic.specs.Model.{Model, queued, with_alarms}
+use Rattle.deterministic.specs.Run.{Finish, ringing, standing, rung, ticked}
+use Rattle.deterministic.specs.History.{Close, never, out_of_time, rang, clock_at, rung_in, reached, InOrder}
+use Rattle.deterministic.specs.Went.{jumped_to}
 use Rattle.laws.specs.Story.{Closed, before, timeout, stalls, completes, rings_of}
 use Rattle.laws.proofs.AlarmsCounts.{number, number_split, number_due, number_none_due}
 use Rattle.laws.proofs.AlarmsOrders.{ordered_part, ordered_in_order}

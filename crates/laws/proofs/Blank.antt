@@ -5,13 +5,13 @@ use Rattle.entry.specs.declared.Entry.TheVariants as entry
 use Rattle.ledger.specs.Book.{Book, empty, rest, written}
 use Rattle.alarms.specs.declared.Alarm.{Alarm}
 use Rattle.alarms.specs.Laws.{due}
-use Rattle.model.specs.Model as model
-use Rattle.model.specs.Model.{Model}
-use Rattle.model.specs.Moves.{Move, wake, register, arm, mark, pend, leave, grow, quiet, move}
-use Rattle.model.specs.Run.{Finish, timed_out, end_of, ringing, rung, ticked}
-use Rattle.model.specs.Acts.{Act}
-use Rattle.model.specs.History.{Round, Close, ring_entry}
-use Rattle.model.specs.Went.{jumped_to}
+use Rattle.deterministic.specs.Model as model
+use Rattle.deterministic.specs.Model.{Model}
+use Rattle.deterministic.specs.Moves.{Move, wake, register, arm, mark, pend, leave, grow, quiet, move}
+use Rattle.deterministic.specs.Run.{Finish, timed_out, end_of, ringing, rung, ticked}
+use Rattle.deterministic.specs.Acts.{Act}
+use Rattle.deterministic.specs.History.{Round, Close, ring_entry}
+use Rattle.deterministic.specs.Went.{jumped_to}
 use Rattle.laws.specs.Story as story
 use Rattle.laws.specs.Story.{Did, Path, here, next, Closed, Played, Story}
 use Rattle.laws.proofs.Story.{steps_path}

@@ -1,12 +1,12 @@
 -- What moves the clock: no act does, and a close does by one cycle and by a jump.
 use Rattle.std.proofs.Common.{◌≡◌, ℕ, List, [], ◌∷◌, ◌++◌, Some, None, Option, sym, refl, ◌∙◌, subst}
-use Rattle.model.specs.declared.clock.Clock.{Clock}
-use Rattle.model.specs.Model.{Model}
-use Rattle.model.specs.Moves.{wake, register, arm, mark, pend, leave, grow, quiet}
-use Rattle.model.specs.Acts.{Act}
-use Rattle.model.specs.Run.{Finish, ticked, rung}
-use Rattle.model.specs.History.{Round, Close, clock_by, clock_after, moves_by}
-use Rattle.model.specs.Went.{jumped_to}
+use Rattle.deterministic.specs.declared.clock.Clock.{Clock}
+use Rattle.deterministic.specs.Model.{Model}
+use Rattle.deterministic.specs.Moves.{wake, register, arm, mark, pend, leave, grow, quiet}
+use Rattle.deterministic.specs.Acts.{Act}
+use Rattle.deterministic.specs.Run.{Finish, ticked, rung}
+use Rattle.deterministic.specs.History.{Round, Close, clock_by, clock_after, moves_by}
+use Rattle.deterministic.specs.Went.{jumped_to}
 use Rattle.laws.specs.Story.{Did, moves, polls, skips, calls, Path, here, next, Closed, before, timeout, stalls, completes}
 use Rattle.laws.proofs.AlarmsStruck.{rung_clock}
 

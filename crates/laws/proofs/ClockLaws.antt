@@ -2,14 +2,14 @@
 use Rattle.std.proofs.Common.{◌≡◌, ℕ, ◌+◌, ◌<◌, ◌≤◌, true, ◌⊎◌, List, [], ◌∷◌, ◌++◌, length, None, Option, sym, refl, ap, ◌∙◌, subst, ⊎_elim, append-nil, arith}
 use Rattle.alarms.specs.declared.Alarm.{Alarm}
 use Rattle.alarms.specs.Order.{ordered}
-use Rattle.model.specs.declared.clock.Clock.{Clock}
-use Rattle.model.specs.Model.{Model}
-use Rattle.model.specs.Run.{Finish, ticked}
-use Rattle.model.specs.Acts.{queuing, all_of}
-use Rattle.model.specs.History as history
-use Rattle.model.specs.History.{Round, Close, over, armed, rung, dealt, same, moves_by, ClockMoves, ClockJumps, Pending, jump_by, jumps_by}
-use Rattle.model.specs.Went as went
-use Rattle.model.specs.Went.{Jumps}
+use Rattle.deterministic.specs.declared.clock.Clock.{Clock}
+use Rattle.deterministic.specs.Model.{Model}
+use Rattle.deterministic.specs.Run.{Finish, ticked}
+use Rattle.deterministic.specs.Acts.{queuing, all_of}
+use Rattle.deterministic.specs.History as history
+use Rattle.deterministic.specs.History.{Round, Close, over, armed, rung, dealt, same, moves_by, ClockMoves, ClockJumps, Pending, jump_by, jumps_by}
+use Rattle.deterministic.specs.Went as went
+use Rattle.deterministic.specs.Went.{Jumps}
 use Rattle.laws.specs.Story.{Closed, before, timeout, stalls, completes}
 use Rattle.laws.proofs.Story.{steps_path}
 use Rattle.laws.proofs.Traces.{path_queues, path_deals}

@@ -1,6 +1,6 @@
 -- What is said of each round with the rounds before it and those after it, by recursion and by place.
 use Rattle.std.proofs.Common.{List, [], ◌∷◌, ◌++◌, sym, subst, append_assoc, append-nil}
-use Rattle.model.specs.History.{Round, Each}
+use Rattle.deterministic.specs.History.{Round, Each}
 
 -- of each of these rounds, with those before
 unfoldable pub EachFrom : (List Round → Round → List Round → Type 0) → List Round → List Round → Type 0

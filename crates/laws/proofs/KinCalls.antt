@@ -1,18 +1,18 @@
 -- Every call of a body leaves registry and tree as they were told.
 use Rattle.std.proofs.Common.{◌≡◌, ℕ, ◌+◌, Bool, true, false, cond, List, [], ◌∷◌, Some, None, Option, refl}
+use Rattle.std.proofs.lemmas.Bool.{cond_both}
 use Rattle.keyed.proofs.Finds.{some_not_none}
 use Rattle.reasons.specs.declared.cause.Cause.TheVariants as cause
 use Rattle.lineage.specs.Family.{open_for, aborted_at}
 use Rattle.alarms.specs.Model.{alarm_of}
 use Rattle.signal.specs.Model as stops
 use Rattle.signal.specs.Model.{stop_wakes, completion_wakes}
-use Rattle.model.specs.declared.refusal.Refusal.{Refusal}
-use Rattle.model.specs.declared.refusal.Refusal.TheVariants as refused
-use Rattle.model.specs.Model.{Model, one_spawned}
-use Rattle.model.specs.Moves.{arm, quiet, grant, tally, move}
-use Rattle.model.specs.Refusals.{◌else◌, caller, call_granted, room, context_held, label_short, not_aborted, task_free, node_left, link_left, place_free, reached}
-use Rattle.model.specs.Calls.{Call, current, child, close, links, spawn, sleep, sleep_until, wake, abort, stop, stopped, signal, completed, let_go, refusal, arming, does, spending, if_aborted, despite, doings_by, doings}
-use Rattle.model.proofs.Choices.{cond_by}
+use Rattle.deterministic.specs.declared.refusal.Refusal.{Refusal}
+use Rattle.deterministic.specs.declared.refusal.Refusal.TheVariants as refused
+use Rattle.deterministic.specs.Model.{Model, one_spawned}
+use Rattle.deterministic.specs.Moves.{arm, quiet, grant, tally, move}
+use Rattle.deterministic.specs.Refusals.{◌else◌, caller, call_granted, room, context_held, label_short, not_aborted, task_free, node_left, link_left, place_free, reached}
+use Rattle.deterministic.specs.Calls.{Call, current, child, close, links, spawn, sleep, sleep_until, wake, abort, stop, stopped, signal, completed, let_go, refusal, arming, does, spending, if_aborted, despite, doings_by, doings}
 use Rattle.laws.proofs.Story.{else_none, unless_none}
 use Rattle.laws.proofs.KinMoves.{Leads, Silent, leads_silent, silent_wakes, Watching, leads_close, leads_plant, leads_spawn}
 use Rattle.laws.proofs.KinEnding.{leads_marking}
@@ -46,7 +46,7 @@ spawn_unaborted c label m h =
     not_aborted_none (aborted_at c m.tree) refused.ContextAborted (else_none (not_aborted c m) after_flag flag).0
 
 silent_arming : (t : ℕ) (serial : Option ℕ) (m : Model) → Silent (arming t serial m)
-silent_arming t None m = cond_by (reached t m) Silent [] (arm (alarm_of m.alarms (caller m) t) ∷ []) (λ _. tt) (λ _. tt)
+silent_arming t None m = cond_both (reached t m) [] (arm (alarm_of m.alarms (caller m) t) ∷ []) Silent (λ _. tt) (λ _. tt)
 silent_arming t (Some serial) m = tt
 
 -- what a granted call does

@@ -1,6 +1,6 @@
 -- The end of a task as a whole leaves registry and tree as they were told: all that sits below its node is marked.
 use Rattle.std.proofs.Common.{◌≡◌, ℕ, ◌<◌, cond, not, eqb, List, [], ◌∷◌, ◌++◌, Some, None, Option, sym, refl, ap, ◌∙◌, subst, inl, inr, append-nil}
-use Rattle.std.proofs.lemmas.Bool.{cases_eq, ne_eqb}
+use Rattle.std.proofs.lemmas.Bool.{cases_eq, ne_eqb, cond_both}
 use Rattle.keyed.specs.Keyed.{find}
 use Rattle.keyed.specs.Choices.{given, whether}
 use Rattle.keyed.specs.Members.{In}
@@ -14,13 +14,12 @@ use Rattle.supervision.specs.Sound.{Lives}
 use Rattle.supervision.specs.Calls as tree
 use Rattle.signal.specs.Model as stops
 use Rattle.signal.specs.Model.{completion_wakes}
-use Rattle.model.specs.Model as model
-use Rattle.model.specs.Model.{Task, Registry, Model, id_of, task_at, with_task, with_changed, without_task, one_not_running}
-use Rattle.model.specs.Moves.{Move, wake, register, arm, mark, pend, leave, grow, quiet, fell, tally, keep, move, moves}
-use Rattle.model.specs.Calls.{marking, marking_task}
-use Rattle.model.specs.Ending.{contexts_close, signal_goes, fault_kept, others, markings, cascading, cascade_of, cascade, stops_running, ending_of}
-use Rattle.model.specs.Below.{Tiding, seated, marked}
-use Rattle.model.proofs.Choices.{cond_by}
+use Rattle.deterministic.specs.Model as model
+use Rattle.deterministic.specs.Model.{Task, Registry, Model, id_of, task_at, with_task, with_changed, without_task, one_not_running}
+use Rattle.deterministic.specs.Moves.{Move, wake, register, arm, mark, pend, leave, grow, quiet, fell, tally, keep, move, moves}
+use Rattle.deterministic.specs.Calls.{marking, marking_task}
+use Rattle.deterministic.specs.Ending.{contexts_close, signal_goes, fault_kept, others, markings, cascading, cascade_of, cascade, stops_running, ending_of}
+use Rattle.deterministic.specs.Below.{Tiding, seated, marked}
 use Rattle.laws.proofs.KinTold.{told_before}
 use Rattle.laws.proofs.KinWatched.{Listed, Watched}
 use Rattle.laws.proofs.KinTasks.{listed_low, AllBut, Felled, watched_marked, watched_fewer, watched_left}
@@ -45,14 +44,14 @@ module _ (Q : Saying) (stable : Stable Q) where
       let woken : List Move = cond t.pended (wake t.id cause.Abort ∷ []) [] in
       leads_then (Also late Q) (Also late' Q) (Also late' Q) (mark t.id ∷ []) woken m
       (λ told ok. (watched_marked told late late' m.registry m.tree t.id t here fewer' ok.0, stable told m.registry m.tree t.id ok.1))
-      (leads_silent (Also late' Q) woken (move (mark t.id) m) (cond_by t.pended Silent (wake t.id cause.Abort ∷ []) [] (λ _. tt) (λ _. tt)))
+      (leads_silent (Also late' Q) woken (move (mark t.id) m) (cond_both t.pended (wake t.id cause.Abort ∷ []) [] Silent (λ _. tt) (λ _. tt)))
 
   leads_marking_at : (late late' : List ℕ) (k : ℕ) (m : Model) (o : Option Task) → task_at k m ≡ o → AllBut k late late' → Leads (Also late Q) (given o [] marking_task) m (Also late' Q)
   leads_marking_at late late' k m None is fewer =
       λ told ok. leads_silent (Also late' Q) [] m tt told (watched_fewer told late late' m.registry m.tree k (λ t h. absurd (some_not_none is h)) fewer ok.0, ok.1)
   leads_marking_at late late' k m (Some t) is fewer =
       let woken : List Move = mark t.id ∷ cond t.pended (wake t.id cause.Abort ∷ []) [] in
-      cond_by t.marked (λ (l : List Move). Leads (Also late Q) l m (Also late' Q)) [] woken
+      cond_both t.marked [] woken (λ (l : List Move). Leads (Also late Q) l m (Also late' Q))
       (λ done told ok. leads_silent (Also late' Q) [] m tt told (watched_fewer told late late' m.registry m.tree k (λ u h. ap (λ (x : Task). x.marked) (same_some h is) ∙ done) fewer ok.0, ok.1))
       (λ _. leads_mark late late' k t m is fewer)
 
@@ -166,14 +165,14 @@ leads_contexts i m told ok =
 
 silent_fault : (code : Option ℕ) (m : Model) → Silent (fault_kept code m)
 silent_fault None m = tt
-silent_fault (Some c) m = cond_by m.faults.caught Silent [] (whether m.faults.kept (quiet (keep c) ∷ wake 0 cause.Fault ∷ []) []) (λ _. tt) (λ _. first_kept m.faults.kept) where
+silent_fault (Some c) m = cond_both m.faults.caught [] (whether m.faults.kept (quiet (keep c) ∷ wake 0 cause.Fault ∷ []) []) Silent (λ _. tt) (λ _. first_kept m.faults.kept) where
   first_kept : (o : Option ℕ) → Silent (whether o (quiet (keep c) ∷ wake 0 cause.Fault ∷ []) [])
   first_kept None = tt
   first_kept (Some d) = tt
 
 silent_stops : (m : Model) (o : Option Task) → Silent (given o [] (λ (t : Task). cond t.marked [] (quiet (tally (one_not_running m.counts)) ∷ [])))
 silent_stops m None = tt
-silent_stops m (Some t) = cond_by t.marked Silent [] (quiet (tally (one_not_running m.counts)) ∷ []) (λ _. tt) (λ _. tt)
+silent_stops m (Some t) = cond_both t.marked [] (quiet (tally (one_not_running m.counts)) ∷ []) Silent (λ _. tt) (λ _. tt)
 
 leads_leave : (i : ℕ) (h : Ending) (m : Model) → Leads (Also (i ∷ []) (Fell i)) (leave i h ∷ []) m (Watching [])
 leads_leave i h m told ok = watched_left told m.registry m.tree i ok.1.low ok.1.fell ok.0

@@ -8,8 +8,8 @@ use Rattle.lineage.specs.Family.{Family}
 use Rattle.supervision.specs.Sound.{Lives}
 use Rattle.supervision.proofs.Newborn.{lives_low}
 use Rattle.supervision.proofs.Whole.{Whole}
-use Rattle.model.specs.Model.{Registry}
-use Rattle.model.specs.Below.{Tiding, planted, seated, marked, ended, called}
+use Rattle.deterministic.specs.Model.{Registry}
+use Rattle.deterministic.specs.Below.{Tiding, planted, seated, marked, ended, called}
 use Rattle.laws.proofs.KinTold.{kind, whom, where_to, told_parts, told_before, told_still, told_last}
 use Rattle.laws.proofs.KinTrees.{Carried, Thinned, SeatKept, Gained}
 use Rattle.laws.proofs.KinWatched.{TreeTold, RegistryTold, Watched}

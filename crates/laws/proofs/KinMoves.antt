@@ -16,13 +16,13 @@ use Rattle.supervision.specs.Calls.{seat_of}
 use Rattle.supervision.specs.Calls as tree
 use Rattle.supervision.proofs.Whole.{whole_alone, whole_born, whole_seated, whole_closed, whole_closed_all, open_lives, flag_at}
 use Rattle.supervision.proofs.Ages.{next_settled}
-use Rattle.model.specs.Model as model
-use Rattle.model.specs.Model.{Registry, Model, with_task, with_changed}
-use Rattle.model.specs.Moves.{Move, wake, register, arm, mark, pend, leave, grow, quiet, plant, close, move, moves, wakes}
-use Rattle.model.specs.Calls.{spawning}
-use Rattle.model.specs.Below.{Tiding, planted, seated}
-use Rattle.model.specs.Acts.{did, told_by, telling, all_of}
-use Rattle.model.proofs.Doings.{moves_append}
+use Rattle.deterministic.specs.Model as model
+use Rattle.deterministic.specs.Model.{Registry, Model, with_task, with_changed}
+use Rattle.deterministic.specs.Moves.{Move, wake, register, arm, mark, pend, leave, grow, quiet, plant, close, move, moves, wakes}
+use Rattle.deterministic.specs.Calls.{spawning}
+use Rattle.deterministic.specs.Below.{Tiding, planted, seated}
+use Rattle.deterministic.specs.Acts.{did, told_by, telling, all_of}
+use Rattle.deterministic.proofs.Doings.{moves_append}
 use Rattle.laws.proofs.KinTrees.{all_released, thinned_closed, seat_closed, thinned_closed_all, seat_closed_all, gained_orphaned, gained_born, alike_born}
 use Rattle.laws.proofs.KinWatched.{TreeTold, Watched}
 use Rattle.laws.proofs.KinGrowth.{none_or_some, watched_thinned, watched_gained}

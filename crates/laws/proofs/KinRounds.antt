@@ -3,15 +3,15 @@ use Rattle.std.proofs.Common.{◌≡◌, ℕ, List, [], ◌∷◌, ◌++◌, map
 use Rattle.entry.specs.declared.Entry.TheVariants as entry
 use Rattle.alarms.specs.declared.Alarm.{Alarm}
 use Rattle.alarms.specs.Laws.{due, later}
-use Rattle.model.specs.Model.{Model, queued, with_alarms}
-use Rattle.model.specs.Moves.{Move, wake, register, arm, mark, pend, leave, grow, quiet, plant, seat, close, close_all, fell, moves}
-use Rattle.model.specs.Calls.{doings}
-use Rattle.model.specs.Ending.{ending_of}
-use Rattle.model.specs.Run.{Finish, ringing, standing, rung, ticked}
-use Rattle.model.specs.Below.{Tiding, planted, seated, marked, ended, called, MayBeCalled, EachCall}
-use Rattle.model.specs.Acts.{Act, did, telling, all_of}
-use Rattle.model.specs.History.{Round, Close}
-use Rattle.model.specs.Went.{jumped_to}
+use Rattle.deterministic.specs.Model.{Model, queued, with_alarms}
+use Rattle.deterministic.specs.Moves.{Move, wake, register, arm, mark, pend, leave, grow, quiet, plant, seat, close, close_all, fell, moves}
+use Rattle.deterministic.specs.Calls.{doings}
+use Rattle.deterministic.specs.Ending.{ending_of}
+use Rattle.deterministic.specs.Run.{Finish, ringing, standing, rung, ticked}
+use Rattle.deterministic.specs.Below.{Tiding, planted, seated, marked, ended, called, MayBeCalled, EachCall}
+use Rattle.deterministic.specs.Acts.{Act, did, telling, all_of}
+use Rattle.deterministic.specs.History.{Round, Close}
+use Rattle.deterministic.specs.Went.{jumped_to}
 use Rattle.laws.specs.Story as story
 use Rattle.laws.specs.Story.{Step, Steps, Closed, Played}
 use Rattle.laws.proofs.KinWatched.{Watched, may_be_called}

@@ -16,8 +16,8 @@ use Rattle.supervision.proofs.Newborn.{lives_low}
 use Rattle.supervision.proofs.Whole.{Whole}
 use Rattle.supervision.proofs.Counting.{cascade_law, whole_cascaded}
 use Rattle.supervision.proofs.Ages.{next_cascaded}
-use Rattle.model.specs.Model.{Task, Registry, id_of, new_task, with_task}
-use Rattle.model.specs.Below.{Tiding, planted, seated, marked, ended}
+use Rattle.deterministic.specs.Model.{Task, Registry, id_of, new_task, with_task}
+use Rattle.deterministic.specs.Below.{Tiding, planted, seated, marked, ended}
 use Rattle.laws.proofs.KinTold.{whom, where_to, told_parts, told_before, told_still, told_last}
 use Rattle.laws.proofs.KinTrees.{thinned_cascaded, sits_cascaded}
 use Rattle.laws.proofs.KinWatched.{TreeTold, Listed, RegistryTold, Watched}

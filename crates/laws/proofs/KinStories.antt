@@ -8,11 +8,11 @@ use Rattle.nodes.specs.Node.{serial_of, fresh}
 use Rattle.supervision.specs.Sound.{Lives}
 use Rattle.supervision.specs.Calls.{founded}
 use Rattle.supervision.proofs.Whole.{whole_founded}
-use Rattle.model.specs.Model.{Task, Registry, Model, id_of, new_task}
-use Rattle.model.specs.Run.{Finish}
-use Rattle.model.specs.Below.{Tiding}
-use Rattle.model.specs.Acts.{telling, all_of}
-use Rattle.model.specs.History.{Round, over, told}
+use Rattle.deterministic.specs.Model.{Task, Registry, Model, id_of, new_task}
+use Rattle.deterministic.specs.Run.{Finish}
+use Rattle.deterministic.specs.Below.{Tiding}
+use Rattle.deterministic.specs.Acts.{telling, all_of}
+use Rattle.deterministic.specs.History.{Round, over, told}
 use Rattle.laws.specs.Story as story
 use Rattle.laws.specs.Story.{Played, Story}
 use Rattle.laws.specs.Supervised.{TrulyTold, EveryStoryIsSupervised, Reaches, begun, complete, EveryMomentIsTrulyTold, Comes, EveryRoundComes}

@@ -12,9 +12,9 @@ use Rattle.supervision.specs.Sound.{Lives}
 use Rattle.supervision.specs.Calls.{left}
 use Rattle.supervision.proofs.Whole.{whole_left}
 use Rattle.supervision.proofs.Ages.{next_settled}
-use Rattle.model.specs.Model as model
-use Rattle.model.specs.Model.{Task, Registry, id_of, with_changed, without_task, pended}
-use Rattle.model.specs.Below.{Tiding, seated, marked, ended}
+use Rattle.deterministic.specs.Model as model
+use Rattle.deterministic.specs.Model.{Task, Registry, id_of, with_changed, without_task, pended}
+use Rattle.deterministic.specs.Below.{Tiding, seated, marked, ended}
 use Rattle.laws.proofs.KinTold.{whom, told_parts, told_before, told_still, told_last}
 use Rattle.laws.proofs.KinTrees.{all_vacated, thinned_left, seat_left}
 use Rattle.laws.proofs.KinWatched.{Listed, RegistryTold, Watched}

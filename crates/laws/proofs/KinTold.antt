@@ -3,7 +3,7 @@ use Rattle.std.proofs.Common.{◌≡◌, ℕ, false, eqb, ◌⊎◌, List, [], �
 use Rattle.std.proofs.lemmas.Bool.{eq-eqb, both_ways}
 use Rattle.keyed.specs.Members.{In}
 use Rattle.keyed.proofs.Members.{in_left, in_right, in_parts}
-use Rattle.model.specs.Below.{Tiding, planted, seated, marked, ended, called}
+use Rattle.deterministic.specs.Below.{Tiding, planted, seated, marked, ended, called}
 
 -- tidings of two kinds are not the same
 abbrev pub kind : Tiding → ℕ

@@ -341,13 +341,10 @@ thinned_tidied p F = tidied_by (Thinned F) p F (thinned_same F) (thinned_change 
 seat_tidied : (i p : ℕ) (F : Family) → SeatKept i F (tidied p F)
 seat_tidied i p F = tidied_by (SeatKept i F) p F (seat_same i F) (seat_change i (with_stale 0) (λ _. refl) (λ n t. t) (λ n. refl) p F (swept p F) refl)
 
-same_some_numbers : (c p : ℕ) → Some c ≡ Some p → p ≡ c
-same_some_numbers c p h = same_some h refl
-
 pub gained_born : (c owner : ℕ) (F : Family) → Gained c F (born c owner F)
 gained_born c owner F =
     gained_by c F (tidied c F) (born c owner F) (fresh (tidied c F).next (Some c) false owner) (thinned_tidied c F) (λ i. seat_tidied i c F) (tidied_tells c F).next refl refl refl
-    (record { empty = refl; under = λ _. refl; only = λ p h. same_some_numbers c p h })
+    (record { empty = refl; under = λ _. refl; only = λ p h. cc })
 
 -- a node that lives before a birth lives after it, with its holder, its task and its flag
 pub record Alike (c : ℕ) (n : Node) (G : Family) : Type 0 where

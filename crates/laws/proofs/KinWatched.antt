@@ -10,8 +10,8 @@ use Rattle.nodes.specs.declared.Node.{Node}
 use Rattle.lineage.specs.Family.{Family, node_at}
 use Rattle.supervision.specs.Sound.{Lives, Born}
 use Rattle.supervision.proofs.Whole.{Whole}
-use Rattle.model.specs.Model.{Task, Registry, id_of}
-use Rattle.model.specs.Below.{Tiding, planted, seated, marked, ended, Under, child, further, Below, MayBeCalled}
+use Rattle.deterministic.specs.Model.{Task, Registry, id_of}
+use Rattle.deterministic.specs.Below.{Tiding, planted, seated, marked, ended, Under, child, further, Below, MayBeCalled}
 
 -- the tree, as it was told
 pub record TreeTold (told : List Tiding) (F : Family) : Type 0 where

@@ -2,12 +2,12 @@
 use Rattle.std.proofs.Common.{ℕ, List}
 use Rattle.entry.specs.declared.Entry.{Entry}
 use Rattle.arrange.specs.Order.{Order}
-use Rattle.model.specs.Model.{Model}
-use Rattle.model.specs.Rules.{Turn}
-use Rattle.model.specs.Run.{Finish}
-use Rattle.model.specs.Start.{Settings, started, run}
-use Rattle.model.specs.History.{Round}
-use Rattle.model.proofs.Derive.{run_derives}
+use Rattle.deterministic.specs.Model.{Model}
+use Rattle.deterministic.specs.Rules.{Turn}
+use Rattle.deterministic.specs.Run.{Finish}
+use Rattle.deterministic.specs.Start.{Settings, started, run}
+use Rattle.deterministic.specs.History.{Round}
+use Rattle.deterministic.proofs.Derive.{run_derives}
 use Rattle.laws.specs.Story.{Story}
 use Rattle.laws.specs.Lawful.{Lawful, EveryHistoryIsLawful, EveryRunIsLawful}
 use Rattle.laws.proofs.Story.{went_story}

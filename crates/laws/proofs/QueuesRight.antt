@@ -2,10 +2,10 @@
 use Rattle.std.proofs.Common.{◌≡◌, ◌+◌, List, [], ◌∷◌, ◌++◌, refl, ap, ◌∙◌, arith}
 use Rattle.entry.specs.declared.Entry.{Entry}
 use Rattle.entry.specs.declared.Entry.TheVariants as entry
-use Rattle.model.specs.Model.{Model}
-use Rattle.model.specs.Run.{Finish, end_of}
-use Rattle.model.specs.Start.{Settings, started}
-use Rattle.model.specs.History.{Round}
+use Rattle.deterministic.specs.Model.{Model}
+use Rattle.deterministic.specs.Run.{Finish, end_of}
+use Rattle.deterministic.specs.Start.{Settings, started}
+use Rattle.deterministic.specs.History.{Round}
 use Rattle.laws.specs.Story.{Story}
 use Rattle.laws.specs.Queuing.{entries_of, QueuesRight, TotalsRight, WritesRight}
 use Rattle.laws.proofs.Rounds.{next_round, log_is}

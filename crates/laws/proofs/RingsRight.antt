@@ -1,10 +1,10 @@
 -- Every story rings right, and moves its clock right.
 use Rattle.std.proofs.Common.{List, [], refl, arith}
 use Rattle.entry.specs.declared.Entry.{Entry}
-use Rattle.model.specs.Model.{Model}
-use Rattle.model.specs.Run.{Finish}
-use Rattle.model.specs.Start.{Settings, started}
-use Rattle.model.specs.History.{Round, over, armed, rung, same, clock_after}
+use Rattle.deterministic.specs.Model.{Model}
+use Rattle.deterministic.specs.Run.{Finish}
+use Rattle.deterministic.specs.Start.{Settings, started}
+use Rattle.deterministic.specs.History.{Round, over, armed, rung, same, clock_after}
 use Rattle.laws.specs.Story.{Story}
 use Rattle.laws.specs.Ringing.{RingsRight}
 use Rattle.laws.proofs.Each.{each}

@@ -7,10 +7,10 @@ use Rattle.keyed.specs.Members.{times}
 use Rattle.keyed.proofs.Counts.{times_append}
 use Rattle.entry.specs.declared.Entry.{Entry}
 use Rattle.entry.specs.declared.Entry.TheVariants as entry
-use Rattle.model.specs.Model.{Model}
-use Rattle.model.specs.Run.{Finish, end_of}
-use Rattle.model.specs.Acts.{writing, all_of}
-use Rattle.model.specs.History.{Round, rung, dealt, queued, over, NextRound, complete_by, round_entries, close_entries}
+use Rattle.deterministic.specs.Model.{Model}
+use Rattle.deterministic.specs.Run.{Finish, end_of}
+use Rattle.deterministic.specs.Acts.{writing, all_of}
+use Rattle.deterministic.specs.History.{Round, rung, dealt, queued, over, NextRound, complete_by, round_entries, close_entries}
 use Rattle.laws.specs.Story as story
 use Rattle.laws.specs.Story.{Played, Story}
 use Rattle.laws.specs.Queuing.{entries_of}

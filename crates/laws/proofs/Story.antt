@@ -1,5 +1,6 @@
 -- Each run is a story.
 use Rattle.std.proofs.Common.{◌≡◌, ℕ, ◌+◌, ◌<◌, Bool, true, false, cond, eqb, ltb, leb, List, [], ◌∷◌, ◌++◌, map, Some, None, Option, sym, refl, ap, ◌∙◌, subst, append_assoc, append-nil, arith, eqb-true, leb-false}
+use Rattle.std.proofs.lemmas.Bool.{cond_both}
 use mathlib.Core.List.{map-append}
 use borrow.Author.Tests.{eqb-false}
 use Rattle.keyed.specs.Choices.{given}
@@ -13,25 +14,24 @@ use Rattle.lineage.specs.Family.{Family, open_for, aborted_at}
 use Rattle.signal.specs.Model.{stop_wakes, completion_wakes}
 use Rattle.signal.specs.Model as stops
 use Rattle.arrange.specs.Order.{Order, asked}
-use Rattle.model.specs.declared.outcome.Outcome.{Outcome}
-use Rattle.model.specs.declared.outcome.Outcome.TheVariants as outcome
-use Rattle.model.specs.declared.refusal.Refusal.{Refusal}
-use Rattle.model.specs.declared.refusal.Refusal.TheVariants as refused
-use Rattle.model.specs.Numbers.{refusal_number}
-use Rattle.model.specs.Model.{Task, Model, free, task_at, id_of, with_tree, one_not_running, marked, pended, new_task}
-use Rattle.model.specs.Moves as moved
-use Rattle.model.specs.Moves.{Move, register, arm, mark, pend, leave, grow, quiet, tally, grant, move, moves, Doing, ◌then◌, wakes}
-use Rattle.model.specs.Refusals.{◌else◌, unless, caller, reached, call_granted, room, context_held, not_aborted, node_left, link_left, label_short, task_free, place_free}
-use Rattle.model.specs.Calls as calls
-use Rattle.model.specs.Calls.{Call, refusal, does, despite, if_aborted, spending, doings_by, doings, after, apply, doings_of, marking, marking_task, arming}
-use Rattle.model.specs.Ending.{contexts_close, signal_goes, fault_kept, others, markings, cascading, cascade_of, cascade, stops_running, ending_of, is_marked, settling, settling_root}
-use Rattle.model.specs.Rules.{Turn}
-use Rattle.model.specs.Run.{Finish, ledger_spent, clock_spent, settle}
-use Rattle.model.specs.Acts.{Act, did}
-use Rattle.model.specs.History.{Round}
-use Rattle.model.specs.Went as went
-use Rattle.model.specs.Went.{Dealt, turn_acts, turned_to, at_call, turn_at, Deals, Plays, Went}
-use Rattle.model.proofs.Choices.{cond_by, whether_by, given_by, not_true_false}
+use Rattle.deterministic.specs.declared.outcome.Outcome.{Outcome}
+use Rattle.deterministic.specs.declared.outcome.Outcome.TheVariants as outcome
+use Rattle.deterministic.specs.declared.refusal.Refusal.{Refusal}
+use Rattle.deterministic.specs.declared.refusal.Refusal.TheVariants as refused
+use Rattle.deterministic.specs.Model.{Task, Model, free, task_at, id_of, with_tree, one_not_running, marked, pended, new_task}
+use Rattle.deterministic.specs.Moves as moved
+use Rattle.deterministic.specs.Moves.{Move, register, arm, mark, pend, leave, grow, quiet, tally, grant, move, moves, Doing, ◌then◌, wakes}
+use Rattle.deterministic.specs.Refusals.{◌else◌, unless, caller, reached, call_granted, room, context_held, not_aborted, node_left, link_left, label_short, task_free, place_free}
+use Rattle.deterministic.specs.Calls as calls
+use Rattle.deterministic.specs.Calls.{Call, refusal, does, despite, if_aborted, spending, doings_by, doings, after, apply, doings_of, marking, marking_task, arming}
+use Rattle.deterministic.specs.Ending.{contexts_close, signal_goes, fault_kept, others, markings, cascading, cascade_of, cascade, stops_running, ending_of, is_marked, settling, settling_root}
+use Rattle.deterministic.specs.Rules.{Turn}
+use Rattle.deterministic.specs.Run.{Finish, ledger_spent, clock_spent, settle}
+use Rattle.deterministic.specs.Acts.{Act, did}
+use Rattle.deterministic.specs.History.{Round}
+use Rattle.deterministic.specs.Went as went
+use Rattle.deterministic.specs.Went.{Dealt, turn_acts, turned_to, at_call, turn_at, Deals, Plays, Went}
+use Rattle.deterministic.proofs.Choices.{whether_by, given_by}
 use Rattle.laws.specs.Story as story
 use Rattle.laws.specs.Story.{Fits, Fit, Path, here, next, Step, task_dealt, id_skipped, body_called, body_asks, task_ends, body_pends, Steps, still, onward, Played, Story}
 
@@ -87,13 +87,13 @@ unfolding Milds
 marking_mild i m = given_by (task_at i m) (λ l. Milds l m) [] marking_task (λ _. tt) (λ t e.
     let is : t.id ≡ i = find_key id_of i m.registry.tasks t e in
     let known : task_at t.id m ≡ Some t = ap (λ (j : ℕ). task_at j m) is ∙ e in
-    cond_by t.marked (λ l. Milds l m) _ _ (λ _. tt)
+    cond_both t.marked _ _ (λ l. Milds l m) (λ _. tt)
     (λ q. ((record { task = t; registered = known; unmarked = q }, tt), woken_mild t.pended t.id (move (mark t.id) m))))
 
 -- an alarm is armed for the caller, at a time that is not reached
 arming_mild : (t : ℕ) (serial : Option ℕ) (m : Model) → Milds (arming t serial m) (move (quiet grant) m)
 unfolding Milds
-arming_mild t None m = cond_by (reached t m) (λ l. Milds l (move (quiet grant) m)) _ _ (λ _. tt)
+arming_mild t None m = cond_both (reached t m) _ _ (λ l. Milds l (move (quiet grant) m)) (λ _. tt)
     (λ q. ((record { serial = refl; task = refl; later = leb-false _ _ q }, tt), tt))
 arming_mild t (Some serial) m = tt
 
@@ -140,20 +140,15 @@ does_mild calls.signal m e = ((tt, tt), tt)
 does_mild calls.completed m e = ((tt, tt), tt)
 does_mild calls.let_go m e = ((tt, tt), wakes_mild cause.Stop (completion_wakes m.stop (stops.let_go (caller m) m.stop)) _)
 
-number_of : Option Refusal → ℕ
-number_of o = given o 0 refusal_number
-
 -- want of room is not told as an aborted context
 room_not_aborted : (a b : Bool) → (unless a refused.NoRoom else unless b refused.NoRoom) ≡ Some refused.ContextAborted → ⊥
-unfolding number_of
-room_not_aborted true true e = let z : ◌≡◌ {A = ℕ} 0 12 = ap number_of e in omega arith
-room_not_aborted true false e = let z : ◌≡◌ {A = ℕ} 5 12 = ap number_of e in omega arith
-room_not_aborted false b e = let z : ◌≡◌ {A = ℕ} 5 12 = ap number_of e in omega arith
+room_not_aborted true true e = cc
+room_not_aborted true false e = cc
+room_not_aborted false b e = cc
 
 held_by : (a : Option Refusal) (b : Bool) (rest : Option Refusal) → (a ≡ Some refused.ContextAborted → ⊥) → (a else unless b refused.NotOpen else rest) ≡ Some refused.ContextAborted → b ≡ true
-unfolding number_of
 held_by None true rest n e = refl
-held_by None false rest n e = absurd (let z : ◌≡◌ {A = ℕ} 7 12 = ap number_of e in omega arith)
+held_by None false rest n e = cc
 held_by (Some r) b rest n e = absurd (n e)
 
 -- a spawn that is refused for an aborted context spends a context that the caller holds
@@ -225,14 +220,14 @@ signal_fits i m = (tt, milds_fit _ _ (wakes_mild cause.Stop (completion_wakes m.
 fault_fits : (code : Option ℕ) (m : Model) → Fit (fault_kept code m) m
 unfolding Fit
 fault_fits None m = tt
-fault_fits (Some code) m = cond_by m.faults.caught (λ l. Fit l m) _ _ (λ _. tt) (λ _.
+fault_fits (Some code) m = cond_both m.faults.caught _ _ (λ l. Fit l m) (λ _. tt) (λ _.
     whether_by m.faults.kept (λ l. Fit l m) _ _ (λ _. (tt, (tt, tt))) (λ _ _. tt))
 
 -- marks leave the tree
 pub marking_tree : (i : ℕ) (F : Family) (m : Model) → moves (marking i m) (with_tree F m) ≡ with_tree F (moves (marking i m) m)
 marking_tree i F m = given_by (task_at i m) (λ l. moves l (with_tree F m) ≡ with_tree F (moves l m)) [] marking_task (λ _. refl) (λ t _.
-    cond_by t.marked (λ l. moves l (with_tree F m) ≡ with_tree F (moves l m)) _ _ (λ _. refl) (λ _.
-    cond_by t.pended (λ l. moves (mark t.id ∷ l) (with_tree F m) ≡ with_tree F (moves (mark t.id ∷ l) m)) _ _ (λ _. refl) (λ _. refl)))
+    cond_both t.marked _ _ (λ l. moves l (with_tree F m) ≡ with_tree F (moves l m)) (λ _. refl) (λ _.
+    cond_both t.pended _ _ (λ l. moves (mark t.id ∷ l) (with_tree F m) ≡ with_tree F (moves (mark t.id ∷ l) m)) (λ _. refl) (λ _. refl)))
 
 -- marks fit, whatever the tree is
 markings_fit : (ids : List ℕ) (F : Family) (m : Model) → Fit (markings ids m) (with_tree F m)
@@ -253,7 +248,7 @@ cascade_fits i m = given_by (task_at i m) (λ l. Fit l m) [] (λ t. cascade_of i
 running_fits : (i : ℕ) (m : Model) → Fit (stops_running i m) m
 unfolding Fit
 running_fits i m = given_by (task_at i m) (λ l. Fit l m) [] (λ t. cond t.marked [] (quiet (tally (one_not_running m.counts)) ∷ [])) (λ _. tt) (λ t _.
-    cond_by t.marked (λ l. Fit l m) _ _ (λ _. tt) (λ _. (refl, tt)))
+    cond_both t.marked _ _ (λ l. Fit l m) (λ _. tt) (λ _. (refl, tt)))
 
 leave_fits : (i : ℕ) (h : Ending) (m : Model) → Fit (leave i h ∷ []) m
 unfolding Fit
@@ -351,7 +346,7 @@ above_none i n = omega (arith, n)
 other_steps : (i : ℕ) (o : Outcome) (m : Model) → 0 < i → Registered i m → By m (settling i o m)
 other_steps i outcome.Pending m z r =
     let is = marked_is i m r.0 r.1 in
-    cond_by (is_marked i m) (By m) _ _
+    cond_both (is_marked i m) _ _ (By m)
     (λ q. one_step (task_ends i r.0 ending.Aborted None r.1 (λ _. z)))
     (λ q. one_step (body_pends i r.0 r.1 (λ _. sym is ∙ q)))
 other_steps i (outcome.Done value) m z r = one_step (task_ends i r.0 ending.Returned None r.1 (λ _. z))
@@ -365,7 +360,7 @@ root_steps (outcome.Fault code) m r = still
 
 -- what follows the call of a body
 pub settle_steps : (i : ℕ) (o : Outcome) (m : Model) → Registered i m → By m (settle i o m)
-settle_steps i o m r = cond_by (eqb i 0) (By m) _ _
+settle_steps i o m r = cond_both (eqb i 0) _ _ (By m)
     (λ z. root_steps o m (subst (λ (j : ℕ). Registered j m) (eqb-true i 0 z) r))
     (λ z. other_steps i o m (above_none i (eqb-false i 0 z)) r)
 
@@ -380,7 +375,7 @@ module _ {V : Type 0} (rule : V → ℕ → Model → Turn V) where
   deals_steps (went.short i ids e k) = still
   deals_steps (went.unknown i ids d e more) = onward (id_skipped i ids d e) (deals_steps more)
   deals_steps (went.aborted t ids d e q more) =
-      onward (task_dealt t false ids d e) (onward (task_ends t.id t ending.Aborted None e (λ z. not_true_false t.marked q z)) (deals_steps more))
+      onward (task_dealt t false ids d e) (onward (task_ends t.id t ending.Aborted None e (λ z. cc)) (deals_steps more))
   deals_steps {m = m} (went.kept t code ids d e q k) =
       let is : t.id ≡ 0 = find_key id_of 0 m.registry.tasks t e in
       let at_root : Dealt t.id ids m = record { room = d.room; first = d.first ∙ ap (λ (j : ℕ). j ∷ ids) (sym is) } in

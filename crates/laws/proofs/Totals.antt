@@ -1,5 +1,6 @@
 -- The totals of the ledger, the history and the queues agree.
 use Rattle.std.proofs.Common.{◌≡◌, ℕ, ◌+◌, ◌<◌, ◌≤◌, cond, eqb, List, [], ◌∷◌, ◌++◌, map, length, Some, None, count_by, Option, sym, refl, ap, ◌∙◌, arith, length-append}
+use Rattle.std.proofs.lemmas.Bool.{cond_both}
 use lib.ListN.{length-map}
 use Rattle.std.proofs.lemmas.List.Sums.{sum_by-append}
 use Rattle.std.proofs.lemmas.List.Sorted.{length_permutation}
@@ -8,12 +9,11 @@ use Rattle.entry.specs.declared.Entry.TheVariants as entry
 use Rattle.ledger.specs.Kinds.{is_poll, is_skip, is_registration, is_wake, is_ring}
 use Rattle.ledger.specs.Counting.{one}
 use Rattle.alarms.specs.declared.Alarm.{Alarm}
-use Rattle.model.specs.Model.{Model}
-use Rattle.model.specs.Moves.{wake, register, arm, mark, pend, leave, grow, quiet}
-use Rattle.model.specs.Run.{Finish}
-use Rattle.model.specs.Acts.{Act, did, poll, skip, call, queuing, dealing, writing, all_of}
-use Rattle.model.specs.History.{Round, Close, never, out_of_time, rang, rung, rung_in, dealt, queued, over, complete_by, completed, jump_entries, ring_entry, round_entries, close_entries}
-use Rattle.model.proofs.Choices.{cond_by}
+use Rattle.deterministic.specs.Model.{Model}
+use Rattle.deterministic.specs.Moves.{wake, register, arm, mark, pend, leave, grow, quiet}
+use Rattle.deterministic.specs.Run.{Finish}
+use Rattle.deterministic.specs.Acts.{Act, did, poll, skip, call, queuing, dealing, writing, all_of}
+use Rattle.deterministic.specs.History.{Round, Close, never, out_of_time, rang, rung, rung_in, dealt, queued, over, complete_by, completed, jump_entries, ring_entry, round_entries, close_entries}
 use Rattle.laws.specs.Story as story
 use Rattle.laws.specs.Story.{Closed, Played, Story}
 use Rattle.laws.specs.Queuing.{entries_of}
@@ -171,7 +171,7 @@ story_rounds (story.over p) = omega (arith, played_rounds p)
 story_rounds (story.on p s) = omega (arith, played_rounds p, story_rounds s)
 
 at_most_one : (l : List ℕ) → cond (eqb (length l) 0) 0 1 ≤ 1
-at_most_one l = cond_by (eqb (length l) 0) (λ (n : ℕ). n ≤ 1) 0 1 (λ _. omega arith) (λ _. omega arith)
+at_most_one l = cond_both (eqb (length l) 0) 0 1 (λ (n : ℕ). n ≤ 1) (λ _. omega arith) (λ _. omega arith)
 
 -- a round that is complete has dealt all that was drained
 complete_deals : {m n : Model} {c : Close} {f : Option Finish} (l : List ℕ) (k : ℕ) → Closed m c n f → (m.queues.drained ≡ [] → 1 ≤ k) → complete_by l c ≤ k

@@ -1,18 +1,18 @@
 -- What acts, rings and closes leave in the queues, in the ledger and in the count of completed rounds.
 use Rattle.std.proofs.Common.{◌≡◌, ℕ, ◌+◌, ◌<◌, cond, eqb, List, [], ◌∷◌, ◌++◌, map, length, Some, None, Option, sym, refl, ap, ◌∙◌, append_assoc, append-nil, arith, eqb-true}
+use Rattle.std.proofs.lemmas.Bool.{cond_both}
 use Rattle.entry.specs.declared.Entry.{Entry}
 use Rattle.entry.specs.declared.Entry.TheVariants as entry
 use Rattle.alarms.specs.declared.Alarm.{Alarm}
 use Rattle.alarms.specs.Laws.{due}
-use Rattle.model.specs.Model as model
-use Rattle.model.specs.Model.{Model, Queues}
-use Rattle.model.specs.declared.counts.Counts.{Counts}
-use Rattle.model.specs.Moves.{Move, wake, register, arm, mark, pend, leave, grow, quiet, grant, tally, audit, signals, keep, move}
-use Rattle.model.specs.Run.{Finish, ringing, rung, ticked}
-use Rattle.model.specs.Acts.{Act, queued_by, written_by, queuing, dealing, writing, all_of}
-use Rattle.model.specs.History.{Close, rung_in, complete_by, jump_entries, ring_entry, close_entries}
-use Rattle.model.specs.Went.{jumped_to}
-use Rattle.model.proofs.Choices.{cond_by}
+use Rattle.deterministic.specs.Model as model
+use Rattle.deterministic.specs.Model.{Model, Queues}
+use Rattle.deterministic.specs.declared.counts.Counts.{Counts}
+use Rattle.deterministic.specs.Moves.{Move, wake, register, arm, mark, pend, leave, grow, quiet, grant, tally, audit, signals, keep, move}
+use Rattle.deterministic.specs.Run.{Finish, ringing, rung, ticked}
+use Rattle.deterministic.specs.Acts.{Act, queued_by, written_by, queuing, dealing, writing, all_of}
+use Rattle.deterministic.specs.History.{Close, rung_in, complete_by, jump_entries, ring_entry, close_entries}
+use Rattle.deterministic.specs.Went.{jumped_to}
 use Rattle.laws.specs.Story as story
 use Rattle.laws.specs.Story.{Fits, Did, Path, here, next, Closed, rings_of}
 
@@ -229,7 +229,7 @@ abbrev waits : List ℕ → ℕ
 waits l = cond (eqb (length l) 0) 0 1
 
 some_one : (l : List ℕ) → 0 < length l → waits l ≡ 1
-some_one l h = cond_by (eqb (length l) 0) (λ n. n ≡ 1) 0 1 (λ e. absurd (omega (arith, eqb-true (length l) 0 e))) (λ _. refl)
+some_one l h = cond_both (eqb (length l) 0) 0 1 (λ n. n ≡ 1) (λ e. absurd (omega (arith, eqb-true (length l) 0 e))) (λ _. refl)
 
 -- a close counts a round that it completes
 pub closed_rounds : {m n : Model} {c : Close} {f : Option Finish} → Closed m c n f → n.counts.iterations ≡ m.counts.iterations + complete_by n.queues.waiting c

@@ -2,12 +2,12 @@
 use Rattle.std.specs.Prelude.{ℕ, List}
 use Rattle.entry.specs.declared.Entry.{Entry}
 use Rattle.arrange.specs.Order.{Order}
-use Rattle.model.specs.Model.{Model}
-use Rattle.model.specs.Rules.{Turn}
-use Rattle.model.specs.Run.{Finish, Final}
-use Rattle.model.specs.Start.{Settings, started, run}
-use Rattle.model.specs.History.{Round}
-use Rattle.model.specs.Went.{Went}
+use Rattle.deterministic.specs.Model.{Model}
+use Rattle.deterministic.specs.Rules.{Turn}
+use Rattle.deterministic.specs.Run.{Finish, Final}
+use Rattle.deterministic.specs.Start.{Settings, started, run}
+use Rattle.deterministic.specs.History.{Round}
+use Rattle.deterministic.specs.Went.{Went}
 use Rattle.laws.specs.Queuing.{QueuesRight, WritesRight}
 use Rattle.laws.specs.Ringing.{RingsRight}
 use Rattle.laws.specs.Supervised.{Supervised}

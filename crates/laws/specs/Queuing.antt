@@ -3,10 +3,10 @@ use Rattle.std.specs.Prelude.{◌≡◌, ℕ, ◌+◌, ◌≤◌, List, [], ◌�
 use Rattle.keyed.specs.Members.{times}
 use Rattle.entry.specs.declared.Entry.{Entry}
 use Rattle.entry.specs.declared.Entry.TheVariants as entry
-use Rattle.model.specs.Model.{Model}
-use Rattle.model.specs.Run.{Finish, end_of}
-use Rattle.model.specs.Start.{Settings, started, report_of}
-use Rattle.model.specs.History.{Round, dealt, queued, over, NextRound, completed, round_entries}
+use Rattle.deterministic.specs.Model.{Model}
+use Rattle.deterministic.specs.Run.{Finish, end_of}
+use Rattle.deterministic.specs.Start.{Settings, started, report_of}
+use Rattle.deterministic.specs.History.{Round, dealt, queued, over, NextRound, completed, round_entries}
 use Rattle.laws.specs.Story.{Story}
 
 -- the entries of rounds, one round after another

@@ -2,11 +2,11 @@
 use Rattle.std.specs.Prelude.{◌≡◌, ℕ, ◌+◌, List}
 use Rattle.entry.specs.declared.Entry.{Entry}
 use Rattle.alarms.specs.declared.Alarm.{Alarm}
-use Rattle.model.specs.Model.{Model}
-use Rattle.model.specs.Run.{Finish}
-use Rattle.model.specs.Start.{Settings, started}
-use Rattle.model.specs.Acts.{Act}
-use Rattle.model.specs.History.{Round, over, armed, rung, count, Each, EveryAlarmRings, RingsByTime, OnlyArmedRing, RingsInOrder, ClockMoves, ClockJumps, clock_after}
+use Rattle.deterministic.specs.Model.{Model}
+use Rattle.deterministic.specs.Run.{Finish}
+use Rattle.deterministic.specs.Start.{Settings, started}
+use Rattle.deterministic.specs.Acts.{Act}
+use Rattle.deterministic.specs.History.{Round, over, armed, rung, count, Each, EveryAlarmRings, RingsByTime, OnlyArmedRing, RingsInOrder, ClockMoves, ClockJumps, clock_after}
 use Rattle.laws.specs.Story.{Path, Story}
 
 -- rounds from a start by a cycle to an executor keep this

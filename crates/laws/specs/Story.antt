@@ -11,15 +11,15 @@ use Rattle.reasons.specs.declared.ending.Ending.{Ending}
 use Rattle.lineage.specs.Family.{open_for, aborted_at}
 use Rattle.alarms.specs.declared.Alarm.{Alarm}
 use Rattle.alarms.specs.Laws.{due}
-use Rattle.model.specs.Model.{Task, Model, task_at}
-use Rattle.model.specs.Moves.{Move, wake, register, arm, mark, pend, leave, grow, quiet, Growth, plant, seat, close, close_all, fell, Quiet, grant, tally, audit, signals, keep, move, after_doing}
-use Rattle.model.specs.Refusals.{caller}
-use Rattle.model.specs.Calls.{Call, doings, after}
-use Rattle.model.specs.Ending.{ending_of}
-use Rattle.model.specs.Run.{Finish, timed_out, stalled, opened, skipped, polled, called, ticked, rung, completed, ended}
-use Rattle.model.specs.Acts.{Act, did, poll, skip, call}
-use Rattle.model.specs.History.{Round, Close, never, out_of_time, rang, clock_at}
-use Rattle.model.specs.Went.{Dealt, Callable, Jumps, jumped_to}
+use Rattle.deterministic.specs.Model.{Task, Model, task_at}
+use Rattle.deterministic.specs.Moves.{Move, wake, register, arm, mark, pend, leave, grow, quiet, Growth, plant, seat, close, close_all, fell, Quiet, grant, tally, audit, signals, keep, move, after_doing}
+use Rattle.deterministic.specs.Refusals.{caller}
+use Rattle.deterministic.specs.Calls.{Call, doings, after}
+use Rattle.deterministic.specs.Ending.{ending_of}
+use Rattle.deterministic.specs.Run.{Finish, timed_out, stalled, opened, skipped, polled, called, ticked, rung, completed, ended}
+use Rattle.deterministic.specs.Acts.{Act, did, poll, skip, call}
+use Rattle.deterministic.specs.History.{Round, Close, never, out_of_time, rang, clock_at}
+use Rattle.deterministic.specs.Went.{Dealt, Callable, Jumps, jumped_to}
 
 -- an alarm takes the next serial, for the calling task, at a time that the clock has not reached
 pub record Arms (a : Alarm) (m : Model) : Type 0 where

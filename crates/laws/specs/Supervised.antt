@@ -7,12 +7,12 @@ use Rattle.keyed.specs.Members.{In}
 use Rattle.entry.specs.declared.Entry.{Entry}
 use Rattle.nodes.specs.declared.Node.{Node}
 use Rattle.supervision.specs.Sound.{Lives}
-use Rattle.model.specs.Model.{Task, Model, task_at}
-use Rattle.model.specs.Run.{Finish, opened}
-use Rattle.model.specs.Start.{Settings, started}
-use Rattle.model.specs.Below.{Tiding, planted, seated, marked, ended, Below, EachCall}
-use Rattle.model.specs.Acts.{Act, telling, all_of}
-use Rattle.model.specs.History.{Round, Each, told}
+use Rattle.deterministic.specs.Model.{Task, Model, task_at}
+use Rattle.deterministic.specs.Run.{Finish, opened}
+use Rattle.deterministic.specs.Start.{Settings, started}
+use Rattle.deterministic.specs.Below.{Tiding, planted, seated, marked, ended, Below, EachCall}
+use Rattle.deterministic.specs.Acts.{Act, telling, all_of}
+use Rattle.deterministic.specs.History.{Round, Each, told}
 use Rattle.laws.specs.Story.{Steps, Played, Story}
 
 -- a task sits at a living node, where it was told seated

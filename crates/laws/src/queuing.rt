@@ -2,15 +2,11 @@
 ghost use Rattle.laws.specs.Queuing.{EveryStoryQueuesRight, EveryStoryWritesRight};
 
 // Every queuing is dealt once, in the next round, or is undealt at the end.
-fn stories_queue_right() -> u8
+fn stories_queue_right()
     ensures { EveryStoryQueuesRight }
-{
-    0
-}
+{}
 
 // The ledger tells what happened, round by round, and the totals are read off it.
-fn stories_write_right() -> u8
+fn stories_write_right()
     ensures { EveryStoryWritesRight }
-{
-    0
-}
+{}

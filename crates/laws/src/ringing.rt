@@ -2,15 +2,11 @@
 ghost use Rattle.laws.specs.Ringing.{EveryStoryRingsRight, ActsLeaveTheClock};
 
 // Every alarm rings once and when it should, and nothing but the close of a round moves the clock.
-fn stories_ring_right() -> u8
+fn stories_ring_right()
     ensures { EveryStoryRingsRight }
-{
-    0
-}
+{}
 
 // No act between the draining of a round and its close moves the clock.
-fn acts_leave_the_clock() -> u8
+fn acts_leave_the_clock()
     ensures { ActsLeaveTheClock }
-{
-    0
-}
+{}

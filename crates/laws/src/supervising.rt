@@ -3,22 +3,16 @@ ghost use Rattle.laws.specs.Supervised.{EveryStoryIsSupervised, EveryMomentIsTru
 
 // No body is called of a task that was marked or has ended, nor of one below a task that has ended; and what is told of the tree
 // is so at the end.
-fn stories_are_supervised() -> u8
+fn stories_are_supervised()
     ensures { EveryStoryIsSupervised }
-{
-    0
-}
+{}
 
 // What is told of the tree is so at every moment.
-fn moments_are_truly_told() -> u8
+fn moments_are_truly_told()
     ensures { EveryMomentIsTrulyTold }
-{
-    0
-}
+{}
 
 // Every round of a story begins at such a moment.
-fn rounds_come() -> u8
+fn rounds_come()
     ensures { EveryRoundComes }
-{
-    0
-}
+{}

@@ -1,44 +1,37 @@
--- The counts through one entry more. Assumes nothing.
-use Rattle.std.proofs.Common.{◌≡◌, ℕ, ◌+◌, ◌<◌, ◌≤◌, Bool, true, false, cond, List, length, get_or, take, count_by, arith, lit≤}
-use Rattle.std.proofs.lemmas.List.Sums.{sum_by_more}
+-- Entries of one kind or another, counted at once or by each kind. Assumes nothing.
+use Rattle.std.proofs.Common.{◌≡◌, ℕ, ◌+◌, Bool, true, false, cond, ◌||◌, List, [], ◌∷◌, count_by, refl, arith}
+use Rattle.std.proofs.lemmas.List.Sums.{sum_by-cons}
 use Rattle.entry.specs.declared.Entry.{Entry}
-use Rattle.ledger.specs.declared.counts.Counts.{Counts}
-use Rattle.ledger.specs.Kinds.{Kind, kind_of, by_kind, poll, skip, registration, wake, ring, other, is_poll, is_skip, is_registration, is_wake, is_ring}
-use Rattle.ledger.specs.Counting.{all, one, counted, counts_of}
+use Rattle.ledger.specs.Kinds.{Kind, kind_of, by_kind, poll, skip, registration, wake, ring, other, is_poll, is_skip, is_wake, is_ring}
 
--- the counts of the entries up to the next are those before it, with it counted
-pub counts_of_more : (es : List Entry) (i : ℕ) (d : Entry) → i < length es → counts_of (take (i + 1) es) ≡ counted (get_or es i d) (counts_of (take i es))
-counts_of_more es i d lt =
-    let more : (test : Entry → Bool) → count_by test (take (i + 1) es) ≡ count_by test (take i es) + one test (get_or es i d) = λ test. sum_by_more (one test) es i d lt in
-    λ j. record {
-      polls = more is_poll j;
-      skips = more is_skip j;
-      registrations = more is_registration j;
-      wakes = more is_wake j;
-      rings = more is_ring j;
-    }
+-- two tests of which no kind passes both count together what each counts
+count_either :
+    (p q : Kind → Bool)
+    → ((k : Kind) → cond {A = ℕ} (p k || q k) 1 0 ≡ cond (p k) 1 0 + cond (q k) 1 0)
+    → (es : List Entry) → count_by (λ e. p (kind_of e) || q (kind_of e)) es ≡ count_by (λ e. p (kind_of e)) es + count_by (λ e. q (kind_of e)) es
+count_either p q apart [] = refl
+count_either p q apart (e ∷ es) =
+    omega (
+      arith,
+      apart (kind_of e),
+      sum_by-cons (λ x. cond (p (kind_of x) || q (kind_of x)) 1 0) e es,
+      sum_by-cons (λ x. cond (p (kind_of x)) 1 0) e es,
+      sum_by-cons (λ x. cond (q (kind_of x)) 1 0) e es,
+      count_either p q apart es,
+    )
 
--- one for a kind at which the test holds, else none
-abbrev one_if : Bool → Bool → Bool → Bool → Bool → Kind → ℕ
-one_if p s g w r k = cond (by_kind p s g w r false k) 1 0
+-- no entry is both a poll and a skip
+pub count_deals : (es : List Entry) → count_by (λ e. is_poll e || is_skip e) es ≡ count_by is_poll es + count_by is_skip es
+count_deals =
+    count_either
+    (by_kind true false false false false false)
+    (by_kind false true false false false false)
+    (elim [ poll ↦ refl | skip ↦ refl | registration ↦ refl | wake ↦ refl | ring ↦ refl | other ↦ refl ])
 
--- no kind is counted twice
-kind_once : (k : Kind) →
-    one_if true false false false false k
-    + one_if false true false false false k
-    + one_if false false true false false k
-    + one_if false false false true false k
-    + one_if false false false false true k
-    ≤ 1
-kind_once poll = lit≤ tt
-kind_once skip = lit≤ tt
-kind_once registration = lit≤ tt
-kind_once wake = lit≤ tt
-kind_once ring = lit≤ tt
-kind_once other = lit≤ tt
-
--- an entry adds at most one to all that is counted
-pub all_counted : (e : Entry) (c : Counts) → all (counted e c) ≤ all c + 1
-all_counted e c =
-    let once : one is_poll e + one is_skip e + one is_registration e + one is_wake e + one is_ring e ≤ 1 = kind_once (kind_of e) in
-    omega (arith, once)
+-- nor both a wake and a ring
+pub count_wakes : (es : List Entry) → count_by (λ e. is_wake e || is_ring e) es ≡ count_by is_wake es + count_by is_ring es
+count_wakes =
+    count_either
+    (by_kind false false false true false false)
+    (by_kind false false false false true false)
+    (elim [ poll ↦ refl | skip ↦ refl | registration ↦ refl | wake ↦ refl | ring ↦ refl | other ↦ refl ])

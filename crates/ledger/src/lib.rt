@@ -3,7 +3,6 @@
 
 ghost use Rattle.std.specs.Prelude.{◌≤◌, vec_len};
 
-mod counts;
 pub mod memory;
 pub mod totals;
 pub mod writing;
@@ -15,8 +14,8 @@ pub const LEAST_ENTRIES: usize = 1_024;
 
 pub const MOST_ENTRIES: usize = 65_536;
 
-// The memory stays one piece and is never resized, so that what is not written keeps its old
-// content and can be given back.
+// A vector with the count of what is written beside it, since the memory of a run is fixed: the caller gives it, it is never
+// resized, and what is not written keeps its old content and is given back.
 #[derive(Drop)]
 pub struct Ledger {
     memory: Vec<Entry>,

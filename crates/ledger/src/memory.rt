@@ -11,11 +11,11 @@ pub struct WrongSize {
     pub memory: Vec<Entry>,
 }
 
-impl WrongSize {
-    // The number of this refusal.
-    pub fn number(&self) -> u8
-        ensures value { result ≡ wrong_size_number }
-    {
+// The number of this refusal.
+impl From<&WrongSize> for u8 {
+    ghost from_gives = { λ _ number. number ≡ wrong_size_number };
+
+    fn from(_refusal: &WrongSize) -> u8 {
         4
     }
 }
@@ -27,7 +27,7 @@ impl Ledger {
         ensures made { IfOk result (λ l. view l ≡ empty memory.items) }
         ensures refused { IfErr result (λ e. e.memory ≡ memory) }
     {
-        if memory.len() < LEAST_ENTRIES || memory.len() > MOST_ENTRIES {
+        if !(LEAST_ENTRIES..=MOST_ENTRIES).contains(&memory.len()) {
             return Err(WrongSize { memory });
         }
         Ok(Ledger { memory, used: 0 })

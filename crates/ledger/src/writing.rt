@@ -27,6 +27,6 @@ impl Ledger {
     pub fn entries(&self) -> &[Entry]
         ensures value { result.now ≡ (view self.now).log }
     {
-        &self.memory.as_slice()[0..self.used]
+        &self.memory[..self.used]
     }
 }

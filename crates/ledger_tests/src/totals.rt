@@ -22,8 +22,10 @@ fn totals_count_deals_registrations_and_wakings(rt: HostRuntime) {
         Entry::Poll(0, true),
         Entry::End(End::RootDone),
     ];
-    let totals = Totals::of(&entries);
-    assert_eq!(rt; totals.dealt, 4);
-    assert_eq!(rt; totals.registered, 2);
-    assert_eq!(rt; totals.woken, 2);
+    let totals = Totals {
+        dealt: 4,
+        registered: 2,
+        woken: 2,
+    };
+    assert_eq!(rt; Totals::of(&entries), totals);
 }

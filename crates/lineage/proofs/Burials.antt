@@ -6,8 +6,10 @@ use Rattle.keyed.proofs.Finds.{in_find, length_change, length_without_found}
 use Rattle.keyed.proofs.Searches.{first_in}
 use Rattle.nodes.specs.declared.Node.{Node}
 use Rattle.nodes.specs.Node.{serial_of, bereaved, unkept}
-use Rattle.lineage.specs.Family.{Family, node_at}
+use Rattle.links.specs.declared.Link.{Link}
+use Rattle.lineage.specs.Family.{Family, family, node_at}
 use Rattle.lineage.specs.Deaths.{mourned, buried, doomed, one_dies, repeated, settled}
+use Rattle.lineage.proofs.Newborn.{same_family}
 
 -- what is doomed lives
 pub doomed_lives : (hi : ℕ) (F : Family) (n : Node) → ordered serial_of 0 hi F.nodes ≡ true → doomed F ≡ Some n → node_at n.serial F ≡ Some n
@@ -21,9 +23,6 @@ pub buried_fewer : (hi : ℕ) (F : Family) (n : Node) → ordered serial_of 0 hi
 buried_fewer hi F n o h =
     ap suc (length_mourned n.parent (without serial_of n.serial F.nodes))
     ∙ length_without_found serial_of 0 hi n.serial F.nodes n o (doomed_lives hi F n o h)
-
-pub buried_is : (F : Family) (n : Node) (ns : List Node) → (o : Option ℕ) → n.parent ≡ o → ns ≡ mourned o (without serial_of n.serial F.nodes) → ns ≡ (buried n F).nodes
-buried_is F n ns o e is = is ∙ ap (λ (x : Option ℕ). mourned x (without serial_of n.serial F.nodes)) (sym e)
 
 -- a turn of the loop: what is left to be done is what was
 pub settle_more : (hi : ℕ) (F G : Family) (n : Node) → ordered serial_of 0 hi F.nodes ≡ true → doomed F ≡ Some n → G ≡ buried n F → settled G ≡ settled F
@@ -42,3 +41,7 @@ repeated_none (suc k) F h =
 
 pub settle_end : (F : Family) → doomed F ≡ None → settled F ≡ F
 settle_end F h = repeated_none (length F.nodes) F h
+
+-- what is left after one more change of the nodes
+pub settled_from : {H : Family} (ns ns' : List Node) (ls : List Link) (k k' : ℕ) → H ≡ settled (family ns ls k) → ns ≡ ns' → k ≡ k' → H ≡ settled (family ns' ls k')
+settled_from ns ns' ls k k' e nodes next = e ∙ ap settled (same_family nodes refl next)

@@ -1,22 +1,18 @@
 -- What comes before a link, and what a birth makes of a family.
-use Rattle.std.proofs.Common.{◌≡◌, ℕ, ◌+◌, ◌<◌, ◌≤◌, false, cond, ltb, List, [], ◌∷◌, ◌++◌, length, Some, None, Option, refl, ap, ◌∙◌}
-use Rattle.std.proofs.lemmas.Bool.{lt-ltb, le-ltb, cond_both}
+use Rattle.std.proofs.Common.{◌≡◌, ℕ, ◌≤◌, cond, ltb, List, length, Some, None, Option, refl}
+use Rattle.std.proofs.lemmas.Bool.{le-ltb, cond_both}
 use Rattle.keyed.specs.Choices.{given}
 use Rattle.keyed.proofs.Finds.{length_change}
 use Rattle.nodes.specs.declared.Node.{Node}
-use Rattle.nodes.specs.Node.{serial_of, fresh, with_stale}
+use Rattle.nodes.specs.Node.{serial_of, with_stale}
 use Rattle.links.specs.declared.Link.{Link}
-use Rattle.links.specs.Link.{link}
 use Rattle.lineage.specs.Family.{Family, family, node_at}
-use Rattle.lineage.specs.Births.{swept, tidied, joined, born}
+use Rattle.lineage.specs.Births.{swept, tidied}
 
 pub same_family : {ns ns' : List Node} {ls ls' : List Link} {k k' : ℕ} → ns ≡ ns' → ls ≡ ls' → k ≡ k' → family ns ls k ≡ family ns' ls' k'
 same_family p q r = cc
 
 module _ (p : ℕ) (F : Family) (n : Node) (found : node_at p F ≡ Some n) where
-  pub tidied_few : n.stale < 32 → tidied p F ≡ F
-  tidied_few h = rw found (rw (lt-ltb n.stale 32 h) refl)
-
   pub tidied_many : 32 ≤ n.stale → tidied p F ≡ swept p F
   tidied_many h = rw found (rw (le-ltb n.stale 32 h) refl)
 
@@ -34,10 +30,3 @@ tidied_tells_at p F (Some n) =
 
 pub tidied_tells : (p : ℕ) (F : Family) → Tidied F (tidied p F)
 tidied_tells p F = tidied_tells_at p F (node_at p F)
-
--- G is tidied, then a node is added and linked
-pub born_is : (p owner : ℕ) (F : Family) (ns : List Node) (ls : List Link) (k serial : ℕ) (ns' : List Node) (ls' : List Link) (k' : ℕ)
-    → family ns ls k ≡ tidied p F → serial ≡ k → ns' ≡ ns ++ fresh k (Some p) false owner ∷ [] → k' ≡ k + 1 → ls' ≡ ls ++ link p serial ∷ [] → family ns' ls' k' ≡ born p owner F
-born_is p owner F ns ls k serial ns' ls' k' tidy is nodes next links =
-    let here : family ns' ls' k' ≡ joined p owner (family ns ls k) = same_family nodes (links ∙ ap (λ s. ls ++ link p s ∷ []) is) next in
-    here ∙ ap (joined p owner) tidy

@@ -3,12 +3,11 @@ use Rattle.std.specs.Prelude.{ℕ, Bool, false, List, length, Option, nat_lt}
 use Rattle.keyed.specs.Keyed.{find, change}
 use Rattle.keyed.specs.Choices.{given, holds}
 use Rattle.nodes.specs.declared.Node.{Node}
-use Rattle.nodes.specs.declared.Nodes.{Nodes}
 use Rattle.nodes.specs.Node.{serial_of}
 use Rattle.nodes.specs.Living.{living, next_serial}
 use Rattle.links.specs.declared.Link.{Link}
-use Rattle.links.specs.declared.Links.{Links}
 use Rattle.links.specs.Linked.{linked}
+use Rattle.lineage.specs.declared.Lineage.{Lineage}
 
 -- a tree as a reader sees it
 pub record Family : Type 0 where
@@ -24,8 +23,8 @@ abbrev pub family : List Node → List Link → ℕ → Family
 family ns ls k = record { nodes = ns; links = ls; next = k }
 
 -- what nodes and links stand for together
-abbrev pub family_of : Nodes → Links → Family
-family_of ns ls = family (living ns) (linked ls) (next_serial ns)
+abbrev pub family_of : Lineage → Family
+family_of l = family (living l.nodes) (linked l.links) (next_serial l.nodes)
 
 -- the living node with the serial s
 abbrev pub node_at : ℕ → Family → Option Node

@@ -1,38 +1,50 @@
 // How a node is born.
-ghost use Rattle.std.specs.Prelude.{◌≡◌, ◌+◌, ◌^◌, ◌<◌, length};
-ghost use Rattle.nodes.specs.Living.{living, next_serial};
-ghost use Rattle.lineage.specs.Family.{family_of};
+ghost use Rattle.std.specs.Prelude.{◌≡◌, ◌+◌, ◌^◌, ◌<◌, [], length, IfOk};
+ghost use Rattle.lineage.specs.Family.{family, family_of};
 ghost use Rattle.lineage.specs.Births.{tidied, born};
 
+use crate::Lineage;
 use links::Links;
 use nodes::{Node, Nodes};
+use std::alloc::{AllocError, Global};
 
 // With so many dead children a node's dead links are dropped before the next link: seldom, so that
 // a parent of many short-lived children does not pay for it at each birth.
 pub const STALE_LINKS: u64 = 32;
 
-// What comes before a link below the parent.
-pub fn tidy(nodes: &mut Nodes, links: &mut Links, parent: u64)
-    ensures { family_of nodes.new links.new ≡ tidied parent (family_of nodes.old links.old) }
-{
-    if let Some(node) = nodes.find(parent) {
-        if node.stale >= STALE_LINKS {
-            links.sweep(parent, nodes);
-            nodes.put(Node { stale: 0, ..node });
+impl Lineage {
+    // No node and no link yet. Nothing is allocated after this.
+    pub fn new(heap: Global) -> Result<Lineage, AllocError>
+        ensures { IfOk result (λ l. family_of l ≡ family [] [] 0) }
+    {
+        let nodes = Nodes::new(heap)?;
+        let links = Links::new(heap)?;
+        Ok(Lineage { nodes, links })
+    }
+
+    // What comes before a link below the parent.
+    pub fn tidy(&mut self, parent: u64)
+        ensures { family_of self.new ≡ tidied parent (family_of self.old) }
+    {
+        if let Some(node) = self.nodes.find(parent) {
+            if node.stale >= STALE_LINKS {
+                self.links.sweep(parent, &self.nodes);
+                self.nodes.put(Node { stale: 0, ..node });
+            }
         }
     }
-}
 
-// A child of the parent, with a context that the owner holds; gives its serial.
-pub fn bear(nodes: &mut Nodes, links: &mut Links, parent: u64, owner: u64) -> u64
-    requires node { length (living nodes.old) < 128 }
-    requires link { length (tidied parent (family_of nodes.old links.old)).links < 256 }
-    requires fits { next_serial nodes.old + 1 < 2 ^ 64 }
-    ensures serial { result ≡ next_serial nodes.old }
-    ensures after { family_of nodes.new links.new ≡ born parent owner (family_of nodes.old links.old) }
-{
-    tidy(nodes, links, parent);
-    let serial = nodes.add(Some(parent), false, owner);
-    links.add(parent, serial);
-    serial
+    // A child of the parent, with a context that the owner holds; gives its serial.
+    pub fn bear(&mut self, parent: u64, owner: u64) -> u64
+        requires node { length (family_of self.old).nodes < 128 }
+        requires link { length (tidied parent (family_of self.old)).links < 256 }
+        requires fits { (family_of self.old).next + 1 < 2 ^ 64 }
+        ensures serial { result ≡ (family_of self.old).next }
+        ensures after { family_of self.new ≡ born parent owner (family_of self.old) }
+    {
+        self.tidy(parent);
+        let serial = self.nodes.add(Some(parent), false, owner);
+        self.links.add(parent, serial);
+        serial
+    }
 }

@@ -1,13 +1,15 @@
 // The memory of a walk through the tree.
-ghost use Rattle.std.specs.Prelude.{◌≤◌, vec_len, vec_capacity};
+use links::MOST_LINKS;
+use nodes::MOST_NODES;
+use reserved::Reserved;
 
-// The nodes that a cascade has yet to visit, and the tasks that it has found so far.
+// Each link is gathered at most once, and the top waits first.
+pub(crate) const MOST_WAITING: usize = MOST_LINKS + 1;
+
+// The nodes that a cascade has yet to visit, and the tasks that it has found so far: at most one of
+// each node, which is aborted at most once.
 #[derive(Drop)]
 pub struct Walk {
-    pub(crate) waiting: Vec<u64>,
-    pub(crate) marks: Vec<u64>,
-    // Each link is gathered at most once, and the top waits first.
-    ghost waiting_room: { 257 ≤ vec_capacity waiting },
-    // Each node is aborted at most once.
-    ghost marks_room: { 128 ≤ vec_capacity marks },
+    pub(crate) waiting: Reserved<u64, MOST_WAITING>,
+    pub(crate) marks: Reserved<u64, MOST_NODES>,
 }

@@ -1,2 +1,3 @@
 -- Definitions of lines.
 pub mod Lines
+pub mod Left

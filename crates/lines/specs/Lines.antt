@@ -1,5 +1,5 @@
 -- How bytes fall into lines: LF ends a line.
-use Rattle.std.specs.Prelude.{ℕ, Bool, cond, not, List, [], ◌∷◌, ◌++◌, ◌==◌}
+use Rattle.std.specs.Prelude.{ℕ, cond, List, [], ◌∷◌, ◌++◌, ◌==◌}
 
 -- the lines that LF ends, each without it, and the bytes after the last LF
 pub record Text : Type 0 where
@@ -32,7 +32,3 @@ with_line l t = record { lines = l ∷ t.lines; rest = t.rest }
 -- no line is ended
 abbrev pub unended : List ℕ → Text
 unended bs = record { lines = []; rest = bs }
-
--- the byte does not end a line
-abbrev pub in_line : ℕ → Bool
-in_line b = not (b == 10)

@@ -1,7 +1,6 @@
 -- A loop that gathers the children of a node from its links.
-use Rattle.std.proofs.Common.{◌≡◌, ℕ, suc, ◌+◌, ◌<◌, ◌≤◌, true, false, cond, not, List, [], ◌∷◌, ◌++◌, length, get_or, take, filter, sym, refl, ap, ◌∙◌, arith}
-use Rattle.std.proofs.lemmas.List.{append-nil, append_assoc, take_more, take_all}
-use Rattle.std.proofs.lemmas.Bool.{eq-eqb, ne_eqb}
+use Rattle.std.proofs.Common.{◌≡◌, ℕ, suc, eqb, ◌+◌, ◌<◌, true, false, cond, not, List, [], ◌∷◌, ◌++◌, length, get_or, take, filter, refl, ap, ◌∙◌, arith}
+use Rattle.std.proofs.lemmas.List.{take_more}
 use Rattle.links.specs.declared.Link.{Link}
 use Rattle.links.specs.Link.{from, elsewhere, children}
 
@@ -18,23 +17,6 @@ children_count p (l ∷ ls) =
     let rest = children_count p ls in
     elim (from p l) as (λ b. length (cond b (l.child ∷ children p ls) (children p ls)) + length (cond (not b) (l ∷ filter (elsewhere p) ls) (filter (elsewhere p) ls)) ≡ suc (length ls)) [ true ↦ omega arith | false ↦ omega arith ]
 
--- a turn: the links xs are the slice of the list ys, and the link at i is read
-module _ (p : ℕ) (xs ys : List Link) (same : xs ≡ ys) (i : ℕ) (d : Link) (h : i < length xs) (before sofar : List ℕ) (so : sofar ≡ before ++ children p (take i ys)) where
-  next_children : children p (take (i + 1) ys) ≡ children p (take i ys) ++ children p (get_or xs i d ∷ [])
-  next_children =
-      ap (λ (l : List Link). children p (take (i + 1) l)) (sym same)
-      ∙ (ap (children p) (take_more xs i d h) ∙ (children_append p (take i xs) (get_or xs i d ∷ []) ∙ ap (λ (l : List Link). children p (take i l) ++ children p (get_or xs i d ∷ [])) same))
-
-  pub gathered_more : (get_or xs i d).parent ≡ p → sofar ++ (get_or xs i d).child ∷ [] ≡ before ++ children p (take (i + 1) ys)
-  gathered_more e =
-      let one : children p (get_or xs i d ∷ []) ≡ (get_or xs i d).child ∷ [] = rw (eq-eqb (get_or xs i d).parent p e) refl in
-      ap (λ (l : List ℕ). l ++ (get_or xs i d).child ∷ []) so
-      ∙ (append_assoc before (children p (take i ys)) ((get_or xs i d).child ∷ []) ∙ ap (λ (l : List ℕ). before ++ l) (sym (next_children ∙ ap (λ (l : List ℕ). children p (take i ys) ++ l) one)))
-
-  pub gathered_same : ((get_or xs i d).parent ≡ p → ⊥) → sofar ≡ before ++ children p (take (i + 1) ys)
-  gathered_same e =
-      let one : children p (get_or xs i d ∷ []) ≡ [] = rw (ne_eqb (get_or xs i d).parent p e) refl in
-      so ∙ ap (λ (l : List ℕ). before ++ l) (sym (next_children ∙ (ap (λ (l : List ℕ). children p (take i ys) ++ l) one ∙ append-nil (children p (take i ys)))))
-
-pub gathered_all : (p : ℕ) (xs ys : List Link) → xs ≡ ys → (i : ℕ) (before sofar : List ℕ) → length xs ≤ i → sofar ≡ before ++ children p (take i ys) → sofar ≡ before ++ children p ys
-gathered_all p xs ys same i before sofar h so = so ∙ ap (λ (l : List Link). before ++ children p l) (rw same at (take_all i xs h))
+-- one more link, as at a turn of the loop
+pub children_more : (p : ℕ) (xs : List Link) (i : ℕ) (d : Link) → i < length xs → children p (take (i + 1) xs) ≡ children p (take i xs) ++ cond (eqb (get_or xs i d).parent p) ((get_or xs i d).child ∷ []) []
+children_more p xs i d h = ap (children p) (take_more xs i d h) ∙ children_append p (take i xs) (get_or xs i d ∷ [])

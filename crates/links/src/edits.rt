@@ -4,9 +4,9 @@ ghost use Rattle.nodes.specs.Living.{living};
 ghost use Rattle.links.specs.Link.{link, elsewhere, survives};
 ghost use Rattle.links.specs.Linked.{linked};
 
-use crate::reads::survives;
-use crate::{Link, Links, MOST_LINKS};
+use crate::{Link, Links};
 use nodes::Nodes;
+use reserved::Reserved;
 use std::alloc::{AllocError, Global};
 
 impl Links {
@@ -14,7 +14,7 @@ impl Links {
     pub fn new(heap: Global) -> Result<Links, AllocError>
         ensures { IfOk result (λ t. linked t ≡ []) }
     {
-        let list = Vec::with_capacity(heap, MOST_LINKS)?;
+        let list = Reserved::new(heap)?;
         Ok(Links { list })
     }
 
@@ -23,36 +23,20 @@ impl Links {
         requires { length (linked self.old) < 256 }
         ensures { linked self.new ≡ linked self.old ++ link parent child ∷ [] }
     {
-        self.list.push_reserved(Link { parent, child });
+        self.list.push(Link { parent, child });
     }
 
     // Drops the dead links of the parent.
     pub fn sweep(&mut self, parent: u64, nodes: &Nodes)
         ensures { linked self.new ≡ filter (survives parent (living nodes.now)) (linked self.old) }
     {
-        let mut end = 0;
-        for i in 0..self.list.len() {
-            let here = self.list[i];
-            if survives(here, parent, nodes) {
-                self.list[end] = here;
-                end += 1;
-            }
-        }
-        self.list.truncate(end);
+        self.list.retain(|link| link.survives(parent, nodes));
     }
 
     // Drops all links of the parent.
     pub fn drain(&mut self, parent: u64)
         ensures { linked self.new ≡ filter (elsewhere parent) (linked self.old) }
     {
-        let mut end = 0;
-        for i in 0..self.list.len() {
-            let here = self.list[i];
-            if here.parent != parent {
-                self.list[end] = here;
-                end += 1;
-            }
-        }
-        self.list.truncate(end);
+        self.list.retain(|link| link.parent != parent);
     }
 }

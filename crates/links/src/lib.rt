@@ -1,7 +1,7 @@
 // The links of a supervision tree: from a node to each child that was linked below it, in linking order.
 #![tactic(auto)]
 
-ghost use Rattle.std.specs.Prelude.{◌≤◌, vec_len, vec_capacity};
+use reserved::Reserved;
 
 pub mod edits;
 pub mod reads;
@@ -9,7 +9,7 @@ pub mod reads;
 // So many links there are at once, over all nodes; those to dead nodes count until they are dropped.
 pub const MOST_LINKS: usize = 256;
 
-#[derive(Clone, Copy)]
+#[derive(Clone, Copy, PartialEq, Eq)]
 pub struct Link {
     pub parent: u64,
     pub child: u64,
@@ -18,7 +18,5 @@ pub struct Link {
 // All links of the tree. Memory is reserved when they are made.
 #[derive(Drop)]
 pub struct Links {
-    list: Vec<Link>,
-    ghost room: { 256 ≤ vec_capacity list },
-    ghost few: { vec_len list ≤ 256 },
+    list: Reserved<Link, MOST_LINKS>,
 }

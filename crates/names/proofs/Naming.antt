@@ -1,5 +1,6 @@
 -- How the names of tasks are looked through, one task or one step after another.
-use Rattle.std.proofs.Common.{◌≡◌, ℕ, ◌+◌, ◌<◌, Bool, true, false, cond, ◌&&◌, ◌||◌, List, [], ◌∷◌, ◌++◌, map, length, get_or, take, drop, Some, None, sym, refl, ap, ◌∙◌}
+use Rattle.std.proofs.Common.{◌≡◌, ℕ, ◌+◌, ◌<◌, Bool, cond, ◌&&◌, ◌||◌, List, [], ◌∷◌, ◌++◌, map, length, get_or, take, drop, Some, None, sym, refl, ap, ◌∙◌}
+use Rattle.std.specs.List.{list_any, list_all}
 use Rattle.std.specs.Str.{bytes_eq}
 use Rattle.std.proofs.lemmas.List.{drop_more, take_more, map_push}
 use Rattle.forms.specs.declared.form.Step.{Step}
@@ -17,25 +18,17 @@ drop_item xs i x below is = drop_more xs i x below ∙ ap (λ y. y ∷ drop (i +
 take_item : {X : Type 0} (xs : List X) (i : ℕ) (x : X) → i < length xs → x ≡ get_or xs i x → take (i + 1) xs ≡ take i xs ++ x ∷ []
 take_item xs i x below is = take_more xs i x below ∙ ap (λ y. take i xs ++ y ∷ []) (sym is)
 
-pub is_among_turn : (w : List ℕ) (ts : List TaskForm) (i : ℕ) (t : TaskForm) (same : Bool) → i < length ts → t ≡ get_or ts i t → same ≡ bytes_eq w t.name.now
-    → is_among w (names_in (drop i ts)) ≡ (same || is_among w (names_in (drop (i + 1) ts)))
+-- a name is among those of the tasks if one of them has it
+pub is_among_any : (w : List ℕ) (ts : List TaskForm) → is_among w (names_in ts) ≡ list_any (λ t. bytes_eq w t.name.now) ts
 unfolding is_among names_of
-is_among_turn w ts i t same below is tested =
-    ap (λ us. is_among w (names_in us)) (drop_item ts i t below is) ∙ ap (λ b. b || is_among w (names_in (drop (i + 1) ts))) (sym tested)
+is_among_any w [] = refl
+is_among_any w (t ∷ ts) = ap (λ b. bytes_eq w t.name.now || b) (is_among_any w ts)
 
-pub is_among_none : (w : List ℕ) → is_among w (names_in []) ≡ false
-unfolding is_among names_of
-is_among_none w = refl
-
-pub all_known_turn : (ws : List (List ℕ)) (ss : List Step) (i : ℕ) (d : Step) (known : Bool) → i < length ss → known ≡ is_known ws (act_of (get_or ss i d))
-    → all_known ws (map act_of (drop i ss)) ≡ (known && all_known ws (map act_of (drop (i + 1) ss)))
+-- the names that acts use are known if each act's is
+pub all_known_all : (ws : List (List ℕ)) (ss : List Step) → all_known ws (map act_of ss) ≡ list_all (λ s. is_known ws (act_of s)) ss
 unfolding all_known
-all_known_turn ws ss i d known below tested =
-    ap (λ us. all_known ws (map act_of us)) (drop_more ss i d below) ∙ ap (λ b. b && all_known ws (map act_of (drop (i + 1) ss))) (sym tested)
-
-pub all_known_none : (ws : List (List ℕ)) → all_known ws (map act_of []) ≡ true
-unfolding all_known
-all_known_none ws = refl
+all_known_all ws [] = refl
+all_known_all ws (s ∷ ss) = ap (λ b. is_known ws (act_of s) && b) (all_known_all ws ss)
 
 names_of_push : (ts : List Task) (t : Task) → names_of (ts ++ t ∷ []) ≡ names_of ts ++ t.name ∷ []
 unfolding names_of

@@ -7,18 +7,12 @@ ghost use Rattle.grammar.specs.Reading.{is_among, is_known, all_known, is_named,
 ghost use Rattle.names.specs.Names.{names_in};
 
 use forms::form::{Step, TaskForm};
-use tokens::same::same_bytes;
 
 // Whether a task has the name.
 pub fn is_among(name: &[u8], tasks: &[TaskForm<'_>]) -> bool
     ensures { result ≡ is_among name.now (names_in tasks.now) }
 {
-    for task in tasks {
-        if same_bytes(name, task.name) {
-            return true;
-        }
-    }
-    false
+    tasks.iter().any(|task| name == task.name)
 }
 
 // Whether the name that the step uses, if it uses one, is a task's.
@@ -26,9 +20,7 @@ fn is_known(step: Step<'_>, tasks: &[TaskForm<'_>]) -> bool
     ensures { result ≡ is_known (names_in tasks.now) (act_of step.entry) }
 {
     match step {
-        Step::Spawn(name) => is_among(name, tasks),
-        Step::Wake(name) => is_among(name, tasks),
-        Step::Abort(name) => is_among(name, tasks),
+        Step::Spawn(name) | Step::Wake(name) | Step::Abort(name) => is_among(name, tasks),
         _ => true,
     }
 }
@@ -37,12 +29,7 @@ fn is_known(step: Step<'_>, tasks: &[TaskForm<'_>]) -> bool
 fn all_known(steps: &[Step<'_>], tasks: &[TaskForm<'_>]) -> bool
     ensures { result ≡ all_known (names_in tasks.now) (map act_of steps.now) }
 {
-    for step in steps {
-        if !is_known(*step, tasks) {
-            return false;
-        }
-    }
-    true
+    steps.iter().all(|step| is_known(*step, tasks))
 }
 
 // Whether the task's name is new after the earlier tasks', and each name that it uses is a task's.
@@ -56,9 +43,9 @@ fn is_named(task: &TaskForm<'_>, earlier: &[TaskForm<'_>], tasks: &[TaskForm<'_>
 pub fn misnamed_line(tasks: &[TaskForm<'_>]) -> Option<usize>
     ensures { result ≡ misnamed (names_in tasks.now) [] (map task_of tasks.now) }
 {
+    // The place is wanted: it says which tasks come before, which a search by a test of one task does not see.
     for (i, task) in tasks.iter().enumerate() {
-        let (earlier, _) = tasks.split_at(i);
-        if !is_named(task, earlier, tasks) {
+        if !is_named(task, &tasks[..i], tasks) {
             return Some(task.line);
         }
     }

@@ -1,18 +1,18 @@
 // How the nodes are made and changed.
-ghost use Rattle.std.specs.Prelude.{◌≡◌, ◌+◌, ◌^◌, ◌<◌, [], ◌∷◌, ◌++◌, map, length, IfOk, None, vec_len, vec_capacity};
+ghost use Rattle.std.specs.Prelude.{◌≡◌, ◌+◌, ◌^◌, ◌<◌, [], ◌∷◌, ◌++◌, map, length, IfOk, None};
 ghost use Rattle.keyed.specs.Keyed.{change, without};
-ghost use Rattle.nodes.specs.Node.{serial_of, fresh, with_owner, released, vacated, taken};
+ghost use Rattle.nodes.specs.Node.{serial_of, fresh, with_owner, bereaved, released, vacated, taken};
 ghost use Rattle.nodes.specs.Living.{living, next_serial};
 
-use crate::reads::holds;
-use crate::{MOST_NODES, Node, Nodes};
+use crate::{Node, Nodes};
+use keyed::table::Table;
 use std::alloc::{AllocError, Global};
 
 // The node, its context closed if the task holds it.
 fn released(node: Node, task: u64) -> Node
     ensures { result ≡ released task node }
 {
-    if holds(node.owner, task) {
+    if node.owner == Some(task) {
         Node {
             owner: None,
             ..node
@@ -26,20 +26,22 @@ fn released(node: Node, task: u64) -> Node
 fn vacated(node: Node, task: u64) -> Node
     ensures { result ≡ vacated task node }
 {
-    if holds(node.task, task) {
+    if node.task == Some(task) {
         Node { task: None, ..node }
     } else {
         node
     }
 }
 
+// What each call leaves of the nodes and of the next serial are two clauses, since callers use the one without the other. `release_all`
+// and `vacate` differ in the step alone, which each names.
 impl Nodes {
     // No node yet. Nothing is allocated after this.
     pub fn new(heap: Global) -> Result<Nodes, AllocError>
         ensures { IfOk result (λ t. (living t ≡ []) × (next_serial t ≡ 0)) }
     {
-        let list = Vec::with_capacity(heap, MOST_NODES)?;
-        Ok(Nodes { list, next: 0 })
+        let table = Table::new(heap)?;
+        Ok(Nodes { table })
     }
 
     // A new node, whose context is open and held by the owner; gives its serial.
@@ -50,8 +52,8 @@ impl Nodes {
         ensures nodes { living self.new ≡ living self.old ++ fresh (next_serial self.old) parent aborted owner ∷ [] }
         ensures next { next_serial self.new ≡ next_serial self.old + 1 }
     {
-        let serial = self.next;
-        self.list.push_reserved(Node {
+        let serial = self.table.next();
+        self.table.push(Node {
             serial,
             parent,
             aborted,
@@ -59,7 +61,6 @@ impl Nodes {
             task: None,
             stale: 0,
         });
-        self.next += 1;
         serial
     }
 
@@ -68,9 +69,7 @@ impl Nodes {
         ensures nodes { living self.new ≡ change serial_of (λ _. node) (serial_of node) (living self.old) }
         ensures next { next_serial self.new ≡ next_serial self.old }
     {
-        if let Some(at) = self.place(node.serial) {
-            self.list[at] = node;
-        }
+        self.table.put(node);
     }
 
     // The node with this serial lives no more.
@@ -78,9 +77,7 @@ impl Nodes {
         ensures nodes { living self.new ≡ without serial_of serial (living self.old) }
         ensures next { next_serial self.new ≡ next_serial self.old }
     {
-        if let Some(at) = self.place(serial) {
-            self.list.remove(at);
-        }
+        self.table.remove(serial);
     }
 
     // Closes every context that the task holds.
@@ -88,10 +85,7 @@ impl Nodes {
         ensures nodes { living self.new ≡ map (released task) (living self.old) }
         ensures next { next_serial self.new ≡ next_serial self.old }
     {
-        for i in 0..self.list.len() {
-            let node = self.list[i];
-            self.list[i] = released(node, task);
-        }
+        self.table.change_all(|node| released(node, task));
     }
 
     // Closes the context of the node.
@@ -99,12 +93,13 @@ impl Nodes {
         ensures nodes { living self.new ≡ change serial_of (with_owner None) serial (living self.old) }
         ensures next { next_serial self.new ≡ next_serial self.old }
     {
-        if let Some(node) = self.find(serial) {
-            self.put(Node {
+        self.table.change(
+            serial,
+            |node| Node {
                 owner: None,
                 ..node
-            });
-        }
+            },
+        );
     }
 
     // Spends the context of the node, and seats the task there.
@@ -112,13 +107,28 @@ impl Nodes {
         ensures nodes { living self.new ≡ change serial_of (taken task) serial (living self.old) }
         ensures next { next_serial self.new ≡ next_serial self.old }
     {
-        if let Some(node) = self.find(serial) {
-            self.put(Node {
+        self.table.change(
+            serial,
+            |node| Node {
                 owner: None,
                 task: Some(task),
                 ..node
-            });
-        }
+            },
+        );
+    }
+
+    // The node, if it lives, counts one more dead child.
+    pub fn bereave(&mut self, serial: u64)
+        ensures nodes { living self.new ≡ change serial_of bereaved serial (living self.old) }
+        ensures next { next_serial self.new ≡ next_serial self.old }
+    {
+        self.table.change(
+            serial,
+            |node| Node {
+                stale: node.stale.saturating_add(1),
+                ..node
+            },
+        );
     }
 
     // The task leaves its node.
@@ -126,9 +136,6 @@ impl Nodes {
         ensures nodes { living self.new ≡ map (vacated task) (living self.old) }
         ensures next { next_serial self.new ≡ next_serial self.old }
     {
-        for i in 0..self.list.len() {
-            let node = self.list[i];
-            self.list[i] = vacated(node, task);
-        }
+        self.table.change_all(|node| vacated(node, task));
     }
 }

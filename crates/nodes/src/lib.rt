@@ -1,9 +1,10 @@
 // The living nodes of a supervision tree, in ascending order of their serials.
 #![tactic(auto)]
 
-ghost use Rattle.std.specs.Prelude.{◌≡◌, ◌≤◌, true, vec_len, vec_capacity};
-ghost use Rattle.keyed.specs.Keyed.{ordered};
 ghost use Rattle.nodes.specs.Node.{serial_of};
+
+use keyed::record::Record;
+use keyed::table::Table;
 
 pub mod edits;
 pub mod reads;
@@ -12,7 +13,7 @@ pub mod reads;
 pub const MOST_NODES: usize = 128;
 
 // A node and the context that was made with it; both have the same serial.
-#[derive(Clone, Copy)]
+#[derive(Clone, Copy, PartialEq, Eq)]
 pub struct Node {
     pub serial: u64,
     pub parent: Option<u64>,
@@ -25,13 +26,17 @@ pub struct Node {
     pub stale: u64,
 }
 
+// Nodes are told apart by their serials.
+impl Record for Node {
+    ghost key = { serial_of };
+
+    fn key(&self) -> u64 {
+        self.serial
+    }
+}
+
 // The nodes that live. Memory is reserved when they are made.
 #[derive(Drop)]
 pub struct Nodes {
-    list: Vec<Node>,
-    // The serial of the node that is made next.
-    next: u64,
-    ghost room: { 128 ≤ vec_capacity list },
-    ghost few: { vec_len list ≤ 128 },
-    ghost order: { ordered serial_of 0 next list.items ≡ true },
+    table: Table<Node, MOST_NODES>,
 }

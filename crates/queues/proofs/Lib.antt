@@ -1,2 +1,1 @@
-pub mod Dealing
 pub mod Lengths

@@ -1,26 +1,23 @@
 // How ids are queued, drained and dealt.
 ghost use Rattle.std.specs.Prelude.{◌≡◌, ◌+◌, ◌<◌, [], ◌∷◌, length, IfOk, MatchOption};
 ghost use Rattle.arrange.specs.Order.{asked};
-ghost use Rattle.model.specs.Model.{also_waiting};
+ghost use Rattle.deterministic.specs.Model.{also_waiting};
 ghost use Rattle.queues.specs.Limits.{most_waiting};
 ghost use Rattle.queues.specs.View.{view, nothing_queued, all_drained, first_drained, rest_drained};
 
 use crate::{MOST_WAITING, Queues};
 use arrange::arranger::{Arranger, put_in_order};
 use std::alloc::{AllocError, Global};
+use std::collections::VecDeque;
 
 impl Queues {
     // Two empty queues, each with the memory for MOST_WAITING ids.
     pub fn new(heap: Global) -> Result<Queues, AllocError>
         ensures made { IfOk result (λ q. view q ≡ nothing_queued) }
     {
-        let waiting = Vec::with_capacity(heap, MOST_WAITING)?;
-        let drained = Vec::with_capacity(heap, MOST_WAITING)?;
-        Ok(Queues {
-            waiting,
-            drained,
-            dealt: 0,
-        })
+        let waiting = VecDeque::with_capacity(heap, MOST_WAITING)?;
+        let drained = VecDeque::with_capacity(heap, MOST_WAITING)?;
+        Ok(Queues { waiting, drained })
     }
 
     // How many ids wait.
@@ -34,7 +31,7 @@ impl Queues {
     pub fn undealt(&self) -> usize
         ensures value { result ≡ length (view self.now).drained }
     {
-        self.drained.len() - self.dealt
+        self.drained.len()
     }
 
     // Queues an id, after those that wait.
@@ -43,7 +40,7 @@ impl Queues {
         ensures state { view self.new ≡ also_waiting id (view self.old) }
         ensures length { length (view self.new).waiting ≡ length (view self.old).waiting + 1 }
     {
-        self.waiting.push_reserved(id);
+        self.waiting.push_back_reserved(id);
     }
 
     // Drains all that wait, in the arranger's order, once all that was drained before is dealt.
@@ -52,10 +49,8 @@ impl Queues {
         ensures state { view self.new ≡ all_drained (asked W.rule (W.value arranger.old) (view self.old).waiting).order }
         ensures next { W.value arranger.new ≡ (asked W.rule (W.value arranger.old) (view self.old).waiting).value }
     {
-        self.drained.clear();
-        self.dealt = 0;
         std::mem::swap(&mut self.waiting, &mut self.drained);
-        put_in_order(arranger, self.drained.as_mut_slice());
+        put_in_order(arranger, self.drained.make_contiguous());
     }
 
     // Takes the drained id that is dealt next, or none if all are dealt.
@@ -64,11 +59,6 @@ impl Queues {
         ensures state { view self.new ≡ rest_drained (view self.old) }
         ensures taken { MatchOption result ((view self.old).drained ≡ []) (λ i. (view self.old).drained ≡ i ∷ (view self.new).drained) }
     {
-        if self.dealt == self.drained.len() {
-            return None;
-        }
-        let id = self.drained[self.dealt];
-        self.dealt += 1;
-        Some(id)
+        self.drained.pop_front()
     }
 }

@@ -2,28 +2,23 @@
 ghost use Rattle.std.specs.Prelude.{◌≡◌};
 ghost use Rattle.reasons.specs.Numbers.{cause_number};
 
-#[derive(Clone, Copy)]
+// Each has the number by which the ledger writes it.
+#[derive(Clone, Copy, PartialEq, Eq, Debug)]
 pub enum Cause {
     // A body asked for it.
-    Wake,
+    Wake = 0,
     // The task was marked aborted.
-    Abort,
+    Abort = 1,
     // The stop value came, or the stop is complete.
-    Stop,
+    Stop = 2,
     // A task's fault is kept for the root.
-    Fault,
+    Fault = 3,
 }
 
-impl Cause {
-    // The cause as the ledger writes it.
-    pub fn number(self) -> u8
-        ensures value { result ≡ cause_number self }
-    {
-        match self {
-            Cause::Wake => 0,
-            Cause::Abort => 1,
-            Cause::Stop => 2,
-            Cause::Fault => 3,
-        }
+impl From<Cause> for u8 {
+    ghost from_gives = { λ cause number. number ≡ cause_number cause };
+
+    fn from(cause: Cause) -> u8 {
+        cause as u8
     }
 }

@@ -2,34 +2,27 @@
 ghost use Rattle.std.specs.Prelude.{◌≡◌};
 ghost use Rattle.reasons.specs.Numbers.{end_number};
 
-#[derive(Clone, Copy)]
+// Each has the number by which the ledger writes it.
+#[derive(Clone, Copy, PartialEq, Eq, Debug)]
 pub enum End {
     // The root's body was done.
-    RootDone,
+    RootDone = 0,
     // The root faulted, or was dealt with a kept fault.
-    Fault,
+    Fault = 1,
     // The clock had reached the deadline.
-    Timeout,
+    Timeout = 2,
     // Nothing waited and no alarm was left to ring.
-    Stalled,
+    Stalled = 3,
     // One cycle more would pass the greatest time.
-    Clock,
+    Clock = 4,
     // The ledger had too few free places to go on.
-    Ledger,
+    Ledger = 5,
 }
 
-impl End {
-    // The end as the ledger writes it.
-    pub fn number(self) -> u8
-        ensures value { result ≡ end_number self }
-    {
-        match self {
-            End::RootDone => 0,
-            End::Fault => 1,
-            End::Timeout => 2,
-            End::Stalled => 3,
-            End::Clock => 4,
-            End::Ledger => 5,
-        }
+impl From<End> for u8 {
+    ghost from_gives = { λ end number. number ≡ end_number end };
+
+    fn from(end: End) -> u8 {
+        end as u8
     }
 }

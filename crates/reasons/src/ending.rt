@@ -2,22 +2,18 @@
 ghost use Rattle.std.specs.Prelude.{◌≡◌};
 ghost use Rattle.reasons.specs.Numbers.{ending_number};
 
-#[derive(Clone, Copy)]
+// Each has the number by which the ledger writes it.
+#[derive(Clone, Copy, PartialEq, Eq, Debug)]
 pub enum Ending {
-    Returned,
-    Aborted,
-    Faulted,
+    Returned = 0,
+    Aborted = 1,
+    Faulted = 2,
 }
 
-impl Ending {
-    // The ending as the ledger writes it.
-    pub fn number(self) -> u8
-        ensures value { result ≡ ending_number self }
-    {
-        match self {
-            Ending::Returned => 0,
-            Ending::Aborted => 1,
-            Ending::Faulted => 2,
-        }
+impl From<Ending> for u8 {
+    ghost from_gives = { λ ending number. number ≡ ending_number ending };
+
+    fn from(ending: Ending) -> u8 {
+        ending as u8
     }
 }

@@ -1,6 +1,5 @@
-// Why calls of a body are refused.
+// Whether calls of a body may be made, and why not.
 #![tactic(auto)]
 
 pub mod calls;
 pub mod conditions;
-pub mod trees;

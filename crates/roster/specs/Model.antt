@@ -1,14 +1,12 @@
 -- What a roster stands for, and what each call makes of it and answers.
-use Rattle.std.specs.Prelude.{ℕ, ◌+◌, ◌<◌, Bool, false, List, [], ◌∷◌, ◌++◌, map, vec_items, filter}
-use Rattle.std.specs.List.{AllByRecursion}
+use Rattle.std.specs.Prelude.{ℕ, ◌+◌, ◌<◌, Bool, false, List, [], ◌∷◌, ◌++◌, map, filter}
+use Rattle.std.specs.List.{AllByRecursion, list_any}
 use Rattle.keyed.specs.Keyed.{find, change, without}
-use Rattle.keyed.specs.Members.{any}
 use Rattle.keyed.specs.Choices.{given}
+use Rattle.keyed.specs.Table.{rows, next_key}
 use Rattle.roster.specs.declared.Roster.{Roster}
 use Rattle.roster.specs.declared.row.Row.{Row}
-use Rattle.roster.specs.declared.row.Step.{Step}
-use Rattle.roster.specs.declared.row.Whom.{Whom}
-use Rattle.roster.specs.Row.{task_of, fresh, stepped, holds, is_open, listens}
+use Rattle.roster.specs.Row.{task_of, fresh, holds, is_open}
 
 -- the rows of the registered tasks by ascending id, and the least id that may come next
 pub record Roll : Type 0 where
@@ -17,7 +15,7 @@ pub record Roll : Type 0 where
 
 -- the rows that a roster holds
 abbrev pub view : Roster → Roll
-view r = record { rows = vec_items r.rows; next = r.next }
+view r = record { rows = rows r.rows; next = next_key r.rows }
 
 -- no task is registered
 abbrev pub nobody : Roll
@@ -28,8 +26,8 @@ abbrev pub entered : ℕ → Roll → Roll
 entered task R = record { rows = R.rows ++ fresh task ∷ []; next = task + 1 }
 
 -- a step at a task's row
-abbrev pub turned : Step → ℕ → Roll → Roll
-turned step task R = record { rows = change task_of (stepped step) task R.rows; next = R.next }
+abbrev pub turned : (Row → Row) → ℕ → Roll → Roll
+turned step task R = record { rows = change task_of step task R.rows; next = R.next }
 
 -- a task leaves
 abbrev pub departed : ℕ → Roll → Roll
@@ -41,11 +39,11 @@ holder task rows = given (find task_of task rows) false holds
 
 -- some task holds an open signal
 abbrev pub some_open : List Row → Bool
-some_open = any is_open
+some_open = list_any is_open
 
--- the tasks to wake, by ascending id
-abbrev pub called : Whom → List Row → List ℕ
-called whom rows = map task_of (filter (listens whom) rows)
+-- the tasks whose rows pass the test, by ascending id
+abbrev pub called : (Row → Bool) → List Row → List ℕ
+called test rows = map task_of (filter test rows)
 
 -- ids ascend, so that each stands once
 abbrev pub Ascending : List ℕ → Type 0

@@ -1,12 +1,8 @@
 -- A task's row: its signal, and whether it asked for completion.
-use Rattle.std.specs.Prelude.{ℕ, Bool, true, false, cond, List, [], ◌∷◌}
+use Rattle.std.specs.Prelude.{ℕ, Bool, true, false}
 use Rattle.roster.specs.declared.row.Signal.{Signal}
 use Rattle.roster.specs.declared.row.Signal.TheVariants.{Absent, Open, Awaited, Closed}
 use Rattle.roster.specs.declared.row.Row.{Row}
-use Rattle.roster.specs.declared.row.Step.{Step}
-use Rattle.roster.specs.declared.row.Step.TheVariants.{TakeOpen, TakeClosed, Await, LetGo, AskCompletion}
-use Rattle.roster.specs.declared.row.Whom.{Whom}
-use Rattle.roster.specs.declared.row.Whom.TheVariants.{Waiting, Asked}
 
 -- as many tasks may have a row
 abbrev pub most_tasks : ℕ
@@ -34,25 +30,25 @@ awaited Open = Awaited
 awaited Awaited = Awaited
 awaited Closed = Closed
 
--- the signal after a step
-abbrev pub signal_after : Step → Signal → Signal
-signal_after TakeOpen s = taken Open s
-signal_after TakeClosed s = taken Closed s
-signal_after Await s = awaited s
-signal_after LetGo s = Absent
-signal_after AskCompletion s = s
+-- the row with another signal
+abbrev pub with_signal : Signal → Row → Row
+with_signal s r = record { task = r.task; signal = s; asked = r.asked }
 
--- whether completion was asked for, after a step: once asked, for good
-abbrev pub asked_after : Step → Bool → Bool
-asked_after TakeOpen a = a
-asked_after TakeClosed a = a
-asked_after Await a = a
-asked_after LetGo a = a
-asked_after AskCompletion a = true
+-- the row of a task that takes a signal
+abbrev pub takes : Signal → Row → Row
+takes new r = with_signal (taken new r.signal) r
 
--- the row after a step
-abbrev pub stepped : Step → Row → Row
-stepped step r = record { task = r.task; signal = signal_after step r.signal; asked = asked_after step r.asked }
+-- the row of a task that asks its signal before the stop
+abbrev pub awaits : Row → Row
+awaits r = with_signal (awaited r.signal) r
+
+-- the row of a task that lets its signal go
+abbrev pub lets_go : Row → Row
+lets_go = with_signal Absent
+
+-- the row of a task that asks for completion: once asked, for good
+abbrev pub asks : Row → Row
+asks r = record { task = r.task; signal = r.signal; asked = true }
 
 -- a signal is held
 abbrev held_signal : Signal → Bool
@@ -62,7 +58,7 @@ held_signal Awaited = true
 held_signal Closed = true
 
 -- a signal is held that was taken before the stop
-abbrev open_signal : Signal → Bool
+abbrev pub open_signal : Signal → Bool
 open_signal Absent = false
 open_signal Open = true
 open_signal Awaited = true
@@ -83,11 +79,10 @@ holds r = held_signal r.signal
 abbrev pub is_open : Row → Bool
 is_open r = open_signal r.signal
 
--- the task is one of those to wake: it waits for the stop, or it asked for completion
-abbrev pub listens : Whom → Row → Bool
-listens Waiting r = waiting_signal r.signal
-listens Asked r = r.asked
+-- the task waits for the stop
+abbrev pub is_waiting : Row → Bool
+is_waiting r = waiting_signal r.signal
 
--- the task alone if it is one of those to wake, else nobody
-abbrev pub if_called : Whom → Row → List ℕ
-if_called whom r = cond (listens whom r) (r.task ∷ []) []
+-- the task asked for completion
+abbrev pub has_asked : Row → Bool
+has_asked r = r.asked

@@ -1,12 +1,18 @@
 // What the stopper does with its roster.
-ghost use Rattle.std.specs.Prelude.{◌≡◌, ℕ, ◌+◌, ◌^◌, ◌<◌, ◌≤◌, false, length, IfOk, vec_len, vec_capacity, MatchOption, slice_index_or};
-ghost use Rattle.keyed.specs.Keyed.{known};
-ghost use Rattle.roster.specs.Row.{task_of, most_tasks};
-ghost use Rattle.roster.specs.Model.{view, nobody, entered, turned, departed, holder, some_open, called, Ascending};
+ghost use Rattle.std.specs.Prelude.{◌≡◌, ℕ, ◌+◌, ◌^◌, ◌<◌, ◌≤◌, Bool, length, IfOk};
+ghost use Rattle.std.specs.Fn.{FnReturnsAt};
+ghost use Rattle.reserved.specs.Held.{held};
+ghost use Rattle.reserved.specs.Closures.{Computes};
 ghost use Rattle.roster.specs.declared.row.Row.{Row as Entry};
+ghost use Rattle.roster.specs.Row.{most_tasks};
+ghost use Rattle.roster.specs.Model.{view, nobody, entered, turned, departed, holder, some_open, called, Ascending};
+ghost use Rattle.roster.specs.Closures.{KeepsTask};
 
-use crate::row::{Row, Step, Whom};
+use crate::row::Row;
 use crate::{MOST_TASKS, Roster};
+use keyed::record::Record;
+use keyed::table::Table;
+use reserved::Reserved;
 use std::alloc::{AllocError, Global};
 
 impl Roster {
@@ -14,8 +20,8 @@ impl Roster {
     pub fn new(heap: Global) -> Result<Roster, AllocError>
         ensures made { IfOk result (λ s. view s ≡ nobody) }
     {
-        let rows = Vec::with_capacity(heap, MOST_TASKS)?;
-        Ok(Roster { rows, next: 0 })
+        let rows = Table::new(heap)?;
+        Ok(Roster { rows })
     }
 
     // Registers a task, whose id is above those registered before.
@@ -25,65 +31,45 @@ impl Roster {
         requires few { length (view self.old).rows < most_tasks }
         ensures { view self.new ≡ entered task (view self.old) }
     {
-        self.rows.push_reserved(Row::new(task));
-        self.next = task + 1;
-    }
-
-    // Where the task's row stands.
-    fn place(&self, task: u64) -> Option<usize>
-        ensures { MatchOption result (known task_of task self.now.rows.items ≡ false) (λ i. (i < vec_len self.now.rows) × ((d : Entry) → task_of (slice_index_or self.now.rows.items i d) ≡ task)) }
-    {
-        for (i, row) in self.rows.iter().enumerate() {
-            if row.is_for(task) {
-                return Some(i);
-            }
-        }
-        None
+        self.rows.push(Row::new(task));
     }
 
     // Whether the task holds a signal.
     pub fn holds(&self, task: u64) -> bool
         ensures { result ≡ holder task (view self.now).rows }
     {
-        match self.place(task) {
-            Some(at) => self.rows[at].holds(),
-            None => false,
-        }
+        self.rows.find(task).is_some_and(|row| row.holds())
     }
 
     // Whether some task holds an open signal.
     pub fn some_open(&self) -> bool
         ensures { result ≡ some_open (view self.now).rows }
     {
-        for row in self.rows.iter() {
-            if row.is_open() {
-                return true;
-            }
-        }
-        false
+        self.rows.as_slice().iter().any(Row::is_open)
     }
 
-    // Lists the tasks to wake in place of what the list held, which has the memory for all of them.
-    pub fn list(&self, whom: Whom, ids: &mut Vec<u64>)
-        requires { most_tasks ≤ vec_capacity ids.old }
-        ensures items { ids.new.items ≡ called whom (view self.now).rows }
-        ensures capacity { vec_capacity ids.new ≡ vec_capacity ids.old }
-        ensures ascending { Ascending ids.new.items }
-        ensures few { vec_len ids.new ≤ most_tasks }
+    // Lists the tasks whose rows pass the test, in place of what the list held.
+    pub fn list<P: Fn(&Row) -> bool>(&self, passes: P, ids: &mut Reserved<u64, MOST_TASKS>)
+        requires { P.IsAlwaysCallable passes }
+        ensures items { (test : Entry → Bool) → Computes (FnReturnsAt P.Fn passes) test → held ids.new ≡ called test (view self.now).rows }
+        ensures ascending { Ascending (held ids.new) }
     {
         ids.clear();
-        for row in self.rows.iter() {
-            row.call(whom, ids);
+        for row in self.rows.as_slice() {
+            if passes(row) {
+                ids.push(row.key());
+            }
         }
     }
 
+    // The table's own `change` asks of every step that it keeps the key; here that is a premise of what is promised.
     // A step at the task's row, if it has one.
-    pub fn turn(&mut self, step: Step, task: u64)
-        ensures { view self.new ≡ turned step task (view self.old) }
+    pub fn turn<F: FnOnce(Row) -> Row>(&mut self, task: u64, step: F)
+        requires { F.IsAlwaysCallable step }
+        ensures { (change : Entry → Entry) → Computes (F.post step) change → KeepsTask change → view self.new ≡ turned change task (view self.old) }
     {
-        if let Some(at) = self.place(task) {
-            let row = self.rows[at];
-            self.rows[at] = row.after(step);
+        if let Some(row) = self.rows.find(task) {
+            self.rows.put(step(row));
         }
     }
 
@@ -91,8 +77,6 @@ impl Roster {
     pub fn strike(&mut self, task: u64)
         ensures { view self.new ≡ departed task (view self.old) }
     {
-        if let Some(at) = self.place(task) {
-            let _ = self.rows.remove(at);
-        }
+        self.rows.remove(task);
     }
 }

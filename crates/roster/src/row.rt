@@ -1,9 +1,11 @@
 // A task's part in the stop signal.
-ghost use Rattle.std.specs.Prelude.{◌≡◌, ◌+◌, ◌<◌, ◌≤◌, ◌++◌, vec_len, vec_capacity, ◌==◌};
-ghost use Rattle.roster.specs.Row.{task_of, fresh, stepped, is_open, holds, listens, if_called};
+ghost use Rattle.std.specs.Prelude.{◌≡◌};
+ghost use Rattle.roster.specs.Row.{task_of, fresh, with_signal, takes, awaits, lets_go, asks, is_open, holds, is_waiting, has_asked};
+
+use keyed::record::Record;
 
 // What a task holds of the stop signal.
-#[derive(Clone, Copy)]
+#[derive(Clone, Copy, PartialEq, Eq)]
 pub enum Signal {
     // It has taken none, or let it go.
     Absent,
@@ -23,25 +25,13 @@ pub struct Row {
     asked: bool,
 }
 
-// What a call does to its task's row.
-#[derive(Clone, Copy)]
-pub enum Step {
-    // Takes a signal, unless it holds one: open before the stop, closed after it.
-    TakeOpen,
-    TakeClosed,
-    // Asks the signal before the stop.
-    Await,
-    // Ends the signal.
-    LetGo,
-    // Asks for completion.
-    AskCompletion,
-}
+impl Record for Row {
+    ghost key = { task_of };
 
-// Those whom the first stop wakes, and those whom completion wakes.
-#[derive(Clone, Copy)]
-pub enum Whom {
-    Waiting,
-    Asked,
+    // The task.
+    fn key(&self) -> u64 {
+        self.task
+    }
 }
 
 impl Row {
@@ -56,32 +46,47 @@ impl Row {
         }
     }
 
-    // Whether this is the task's row.
-    pub fn is_for(&self, task: u64) -> bool
-        ensures { result ≡ (task_of self.now == task) }
+    // The row with this signal.
+    fn with(self, signal: Signal) -> Row
+        ensures { result ≡ with_signal signal self }
     {
-        self.task == task
+        Row { signal, ..self }
     }
 
-    // The row after a step.
-    pub fn after(self, step: Step) -> Row
-        ensures { result ≡ stepped step self }
+    // Its task takes this signal, unless it holds one.
+    pub fn take(self, signal: Signal) -> Row
+        ensures { result ≡ takes signal self }
     {
-        let signal = match (step, self.signal) {
-            (Step::TakeOpen, Signal::Absent) => Signal::Open,
-            (Step::TakeClosed, Signal::Absent) => Signal::Closed,
-            (Step::Await, Signal::Open) => Signal::Awaited,
-            (Step::LetGo, _) => Signal::Absent,
-            (_, kept) => kept,
-        };
-        let asked = match step {
-            Step::AskCompletion => true,
-            _ => self.asked,
-        };
+        match self.signal {
+            Signal::Absent => self.with(signal),
+            _ => self,
+        }
+    }
+
+    // Its task asks the signal before the stop.
+    pub fn wait(self) -> Row
+        ensures { result ≡ awaits self }
+    {
+        match self.signal {
+            Signal::Open => self.with(Signal::Awaited),
+            _ => self,
+        }
+    }
+
+    // Its task lets the signal go.
+    pub fn let_go(self) -> Row
+        ensures { result ≡ lets_go self }
+    {
+        self.with(Signal::Absent)
+    }
+
+    // Its task asks for completion.
+    pub fn ask(self) -> Row
+        ensures { result ≡ asks self }
+    {
         Row {
-            task: self.task,
-            signal,
-            asked,
+            asked: true,
+            ..self
         }
     }
 
@@ -89,7 +94,7 @@ impl Row {
     pub fn holds(&self) -> bool
         ensures { result ≡ holds self.now }
     {
-        !matches!(self.signal, Signal::Absent)
+        self.signal != Signal::Absent
     }
 
     // Whether its task holds an open signal.
@@ -99,25 +104,17 @@ impl Row {
         matches!(self.signal, Signal::Open | Signal::Awaited)
     }
 
-    // Whether its task is one of those to wake.
-    pub fn listens(&self, whom: Whom) -> bool
-        ensures { result ≡ listens whom self.now }
+    // Whether its task waits for the stop.
+    pub fn is_waiting(&self) -> bool
+        ensures { result ≡ is_waiting self.now }
     {
-        match whom {
-            Whom::Waiting => matches!(self.signal, Signal::Awaited),
-            Whom::Asked => self.asked,
-        }
+        self.signal == Signal::Awaited
     }
 
-    // Adds its task to those to wake, if it is one of them.
-    pub fn call(&self, whom: Whom, ids: &mut Vec<u64>)
-        requires { vec_len ids.old < vec_capacity ids.old }
-        ensures items { ids.new.items ≡ ids.old.items ++ if_called whom self.now }
-        ensures len { vec_len ids.new ≤ vec_len ids.old + 1 }
-        ensures capacity { vec_capacity ids.new ≡ vec_capacity ids.old }
+    // Whether its task asked for completion.
+    pub fn has_asked(&self) -> bool
+        ensures { result ≡ has_asked self.now }
     {
-        if self.listens(whom) {
-            ids.push_reserved(self.task);
-        }
+        self.asked
     }
 }

@@ -1,3 +1,2 @@
--- Lemmas on drafts and on lines taken one after another.
-mod Places
+-- Lemmas on lines taken one after another.
 mod Telling

@@ -3,9 +3,8 @@ ghost use Rattle.std.specs.Prelude.{◌≡◌, Some};
 ghost use Rattle.forms.specs.Forms.{form_of};
 ghost use Rattle.forms.specs.Views.{acts_of, says_of, task_of};
 ghost use Rattle.grammar.specs.Reading.{blank, drafted, has_room, in_place, planned, with_setting};
-ghost use Rattle.script.specs.Drafts.{is_given, objection, on_line, said_in, AgreesAt};
-ghost use Rattle.script.specs.Views.{script_of, seen};
-ghost use Rattle.script.specs.declared.draft.DraftFault.TheVariants as fault;
+ghost use Rattle.script.specs.Drafts.{is_given, on_line, said_in};
+ghost use Rattle.script.specs.Views.{script_of, seen, Agrees};
 
 use crate::script::Script;
 use faults::fault::{Fault, Reason};
@@ -14,7 +13,7 @@ use forms::fault::FormFault;
 use forms::form::{Form, Setting, TaskForm};
 use forms::reader::read_form;
 use names::{is_among, misnamed_line};
-use std::alloc::{AllocFailed, Global};
+use std::alloc::Global;
 
 const MOST_TASKS: usize = 16;
 
@@ -24,40 +23,13 @@ const DEFAULT_CYCLE_NS: u64 = 1_000_000;
 
 const DEFAULT_START_NS: u64 = 0;
 
-// Why a line is not taken; which line it is, the reader of the whole script knows.
-#[derive(Clone, Copy)]
-pub enum DraftFault {
-    Refused(Reason),
-    Memory,
-}
-
-impl DraftFault {
-    pub fn at(self, line: usize) -> ReadFault
-        ensures { result ≡ on_line line self }
-    {
-        match self {
-            DraftFault::Refused(reason) => ReadFault::Refused(Fault { line, reason }),
-            DraftFault::Memory => ReadFault::Memory,
-        }
-    }
-}
-
-impl From<FormFault> for DraftFault {
-    ghost from_gives = { λ e r. r ≡ objection e };
-
-    fn from(fault: FormFault) -> DraftFault {
-        match fault {
-            FormFault::NoForm => DraftFault::Refused(Reason::NoForm),
-            FormFault::Memory => DraftFault::Memory,
-        }
-    }
-}
-
-impl<T: Drop> From<AllocFailed<T>> for DraftFault {
-    ghost from_gives = { λ e r. r ≡ fault.Memory };
-
-    fn from(_: AllocFailed<T>) -> DraftFault {
-        DraftFault::Memory
+// Why a line is refused that no form came of. No From, since the line has to be told too.
+fn refusal(fault: FormFault, line: usize) -> ReadFault
+    ensures { result ≡ on_line line fault }
+{
+    match fault {
+        FormFault::NoForm => Reason::NoForm.at(line).into(),
+        FormFault::Memory => ReadFault::Memory,
     }
 }
 
@@ -120,25 +92,20 @@ impl<'a> Draft<'a> {
         self.tasks.len() < MOST_TASKS && task.steps.len() <= MOST_STEPS
     }
 
-    fn accept(&mut self, line: usize, form: Form<'a>) -> Result<(), DraftFault>
-        ensures { AgreesAt line result (said_in self.new) (drafted line (Some (says_of form.entry)) (said_in self.old)) }
+    fn accept(&mut self, line: usize, form: Form<'a>) -> Result<(), ReadFault>
+        ensures { Agrees (λ _. said_in self.new) result (drafted line (Some (says_of form.entry)) (said_in self.old)) }
     {
         match form {
-            Form::Setting(setting) => {
-                if !self.in_place(setting) {
-                    return Err(DraftFault::Refused(Reason::NoForm));
-                }
+            Form::Setting(setting) if self.in_place(setting) => {
                 self.set(setting);
                 Ok(())
             }
-            Form::Task(task) => {
-                if !self.has_room(&task) {
-                    return Err(DraftFault::Refused(Reason::TooMany));
-                }
-                let TaskForm { name, steps, .. } = task;
-                self.tasks.push(TaskForm { name, steps, line })?;
+            Form::Setting(_) => Err(Reason::NoForm.at(line).into()),
+            Form::Task(task) if self.has_room(&task) => {
+                self.tasks.push(TaskForm { line, ..task })?;
                 Ok(())
             }
+            Form::Task(_) => Err(Reason::TooMany.at(line).into()),
         }
     }
 
@@ -148,10 +115,10 @@ impl<'a> Draft<'a> {
         heap: Global,
         number: usize,
         line: &'a [u8],
-    ) -> Result<(), DraftFault>
-        ensures { AgreesAt number result (said_in self.new) (drafted number (form_of line.now) (said_in self.old)) }
+    ) -> Result<(), ReadFault>
+        ensures { Agrees (λ _. said_in self.new) result (drafted number (form_of line.now) (said_in self.old)) }
     {
-        let form = read_form(heap, number, line)?;
+        let form = read_form(heap, number, line).map_err(|fault| refusal(fault, number))?;
         self.accept(number, form)
     }
 
@@ -161,16 +128,10 @@ impl<'a> Draft<'a> {
     {
         let tasks = self.tasks.as_slice();
         if let Some(line) = misnamed_line(tasks) {
-            return Err(Fault {
-                line,
-                reason: Reason::Name,
-            });
+            return Err(Reason::Name.at(line));
         }
         if !is_among(b"root", tasks) {
-            return Err(Fault {
-                line: 0,
-                reason: Reason::Name,
-            });
+            return Err(Reason::Name.at(0));
         }
         Ok(Script {
             cycle_ns: self.cycle_ns.unwrap_or(DEFAULT_CYCLE_NS),

@@ -1,5 +1,4 @@
 // A whole script from its bytes.
-ghost use Rattle.std.specs.Prelude.{◌≡◌, ◌≤◌, length};
 ghost use Rattle.lines.specs.Lines.{text_of};
 ghost use Rattle.grammar.specs.Reading.{blank, draft_of, reading};
 ghost use Rattle.grammar.specs.Reads.{Exact, Grows, OneReading, Respelled, Settled};
@@ -8,35 +7,25 @@ ghost use Rattle.script.specs.Views.{script_of, Agrees};
 
 use crate::draft::Draft;
 use crate::script::Script;
-use faults::fault::{Fault, Reason};
+use faults::fault::Reason;
 use faults::read_fault::ReadFault;
-use lines::split_line;
+use lines::{Lines, Unended};
 use std::alloc::Global;
 
 const MOST_BYTES: usize = 4096;
 
+// The three readers take the memory and the bytes: a struct of both would be made and taken apart at once, and is no plainer.
 // What the lines say, one after another; bytes after the last LF are no line, hence no form.
 fn read_lines<'a>(heap: Global, bytes: &'a [u8]) -> Result<Draft<'a>, ReadFault>
-    requires { length bytes.now ≤ 4096 }
     ensures { Agrees said_in result (draft_of 1 blank (text_of bytes.now).lines (text_of bytes.now).rest) }
 {
     let mut draft = Draft::new(heap);
-    let mut number: usize = 1;
-    let mut rest = bytes;
-    while let Some((line, after)) = split_line(rest) {
-        match draft.take_line(heap, number, line) {
-            Ok(()) => {
-                number += 1;
-                rest = after;
-            }
-            Err(fault) => return Err(fault.at(number)),
+    for (i, line) in Lines::new(bytes).enumerate() {
+        let number = i + 1;
+        match line {
+            Ok(line) => draft.take_line(heap, number, line)?,
+            Err(Unended(_)) => return Err(Reason::NoForm.at(number).into()),
         }
-    }
-    if !rest.is_empty() {
-        return Err(ReadFault::Refused(Fault {
-            line: number,
-            reason: Reason::NoForm,
-        }));
     }
     Ok(draft)
 }
@@ -46,14 +35,9 @@ fn read_plan<'a>(heap: Global, bytes: &'a [u8]) -> Result<Script<'a>, ReadFault>
     ensures { Agrees script_of result (reading bytes.now) }
 {
     if bytes.len() > MOST_BYTES {
-        return Err(ReadFault::Refused(Fault {
-            line: 0,
-            reason: Reason::TooLong,
-        }));
+        return Err(Reason::TooLong.at(0).into());
     }
-    let draft = read_lines(heap, bytes)?;
-    let script = draft.finish()?;
-    Ok(script)
+    Ok(read_lines(heap, bytes)?.finish()?)
 }
 
 // The script that the bytes say, or the first reason to refuse them.

@@ -13,7 +13,7 @@ use std::alloc::{AllocError, Global};
 use std::io;
 use std::io::{Read, Write};
 
-// A script and what it shows.
+// A script and what it shows. What comes before the first name is a case without one, which is told only where no name follows.
 #[derive(Drop)]
 struct Case<'a> {
     name: &'a [u8],

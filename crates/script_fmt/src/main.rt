@@ -8,7 +8,7 @@ use script_print::print::print;
 use std::alloc::AllocError;
 use std::io::{Read, Write};
 use std::process::ExitCode;
-use std::{env, fs, io};
+use std::{env, fmt, fs, io};
 
 // Why nothing was printed.
 #[derive(Drop)]
@@ -29,32 +29,37 @@ impl From<AllocError> for Failure {
 impl From<ReadFault> for Failure {
     fn from(fault: ReadFault) -> Failure {
         match fault {
-            ReadFault::Refused(fault) => Failure::Refused(FaultLine::from(fault)),
+            ReadFault::Refused(fault) => Failure::Refused(fault.into()),
             ReadFault::Memory => Failure::Memory,
+        }
+    }
+}
+
+impl fmt::Display for Failure {
+    fn fmt<W: fmt::Write>(&self, f: &mut fmt::Formatter<W>) -> fmt::Result {
+        match self {
+            Failure::Usage => write!(f, "at most one file; call it as: script_fmt [FILE]"),
+            Failure::Input(error) => write!(f, "the script cannot be read: {error}"),
+            Failure::Output(error) => write!(f, "the script cannot be printed: {error}"),
+            Failure::Memory => write!(f, "no memory is left"),
+            Failure::Refused(line) => write!(f, "{line}"),
         }
     }
 }
 
 // The file that the program was called with: none, or `-`, is standard input.
 fn file_argument(rt: &HostRuntime) -> Result<Option<String>, Failure> {
-    let Ok(mut arguments) = env::args(rt) else {
-        return Err(Failure::Memory);
-    };
-    let _ = arguments.next();
+    let mut arguments = env::args(rt).map_err(|_| Failure::Memory)?;
+    let _program = arguments.next();
     let file = arguments.next();
     if arguments.next().is_some() {
         return Err(Failure::Usage);
     }
-    let Some(file) = file else {
-        return Ok(None);
-    };
-    if file.as_bytes() == b"-".as_slice() {
-        return Ok(None);
+    match file {
+        Some(file) if file.as_str() == "-" => Ok(None),
+        Some(file) if file.as_str().starts_with('-') => Err(Failure::Usage),
+        file => Ok(file),
     }
-    if file.as_str().starts_with('-') {
-        return Err(Failure::Usage);
-    }
-    Ok(Some(file))
 }
 
 fn input(rt: &HostRuntime) -> Result<Vec<u8>, Failure> {
@@ -62,12 +67,10 @@ fn input(rt: &HostRuntime) -> Result<Vec<u8>, Failure> {
         Some(file) => fs::read(rt, file.as_str()),
         None => standard_input(rt),
     };
-    match read {
-        Ok(bytes) => Ok(bytes),
-        Err(error) => Err(Failure::Input(error)),
-    }
+    read.map_err(Failure::Input)
 }
 
+// Two calls of the library, as in the other programs of scripts: one function for all would want a crate of its own.
 fn standard_input(rt: &HostRuntime) -> io::Result<Vec<u8>> {
     let mut bytes = Vec::new(rt.alloc());
     rt.stdin().read_to_end(&mut bytes)?;
@@ -78,24 +81,16 @@ fn format(rt: &HostRuntime) -> Result<(), Failure> {
     let bytes = input(rt)?;
     let script = read(rt.alloc(), bytes.as_slice())?;
     let spelled = print(rt.alloc(), &script)?;
-    match rt.stdout().write_all(spelled.as_slice()) {
-        Ok(()) => Ok(()),
-        Err(error) => Err(Failure::Output(error)),
-    }
+    rt.stdout()
+        .write_all(spelled.as_slice())
+        .map_err(Failure::Output)
 }
 
 // The fault line is an answer and goes to standard output; what else fails is told on standard error.
 fn tell(rt: &HostRuntime, failure: &Failure) -> io::Result<()> {
     match failure {
-        Failure::Refused(line) => println!(rt; "{line}"),
-        Failure::Usage => eprintln!(rt;
-            "script_fmt: at most one file; call it as: script_fmt [FILE]"
-        ),
-        Failure::Input(error) => eprintln!(rt; "script_fmt: the script cannot be read: {error}"),
-        Failure::Output(error) => eprintln!(rt;
-            "script_fmt: the script cannot be printed: {error}"
-        ),
-        Failure::Memory => eprintln!(rt; "script_fmt: no memory is left"),
+        Failure::Refused(_) => println!(rt; "{failure}"),
+        _ => eprintln!(rt; "script_fmt: {failure}"),
     }
 }
 

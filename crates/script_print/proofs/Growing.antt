@@ -1,58 +1,42 @@
 -- Bytes that grow at their end, one piece after another.
-use Rattle.std.proofs.Common.{◌≡◌, ℕ, ◌+◌, ◌<◌, cond, List, [], ◌∷◌, ◌++◌, map, length, get_or, drop, is_ok, Ok, Err, Result, sym, refl, ap, ◌∙◌, append_assoc, append-nil}
-use Rattle.std.proofs.lemmas.List.{drop_more}
+use Rattle.std.proofs.Common.{◌≡◌, Ok, Err, Result, is_ok, if◌then◌else◌, ℕ, ◌+◌, ◌<◌, ◌≤◌, List, [], ◌∷◌, ◌++◌, map, length, get_or, drop, sym, ap, ◌∙◌, append_assoc, append-nil}
+use Rattle.std.proofs.lemmas.List.{drop_more, at_drop_all}
 use Rattle.forms.specs.declared.form.Step.{Step}
 use Rattle.forms.specs.declared.form.TaskForm.{TaskForm}
 use Rattle.forms.specs.Views.{act_of, task_of}
-use Rattle.grammar.specs.Spelled.{spelled_act, spelled_acts, spelled_task, spelled_tasks}
 use Rattle.script_print.specs.Grown.{Grown}
-
-pub grown_by : {A E : Type 0} (r : Result A E) (before after more : List ℕ) → after ≡ cond (is_ok r) (before ++ more) before → Grown r before after more
-grown_by (Ok x) before after more is = is
-grown_by (Err e) before after more is = tt
-
--- the same more, otherwise told
-pub grown_as : {A E : Type 0} (r : Result A E) (before after more same : List ℕ) → more ≡ same → Grown r before after more → Grown r before after same
-grown_as (Ok x) before after more same equal grown = grown ∙ ap (λ bs. before ++ bs) equal
-grown_as (Err e) before after more same equal grown = tt
-
--- one piece and then more
-pub grown_then : {A E : Type 0} (r : Result A E) (before between after piece more : List ℕ) → between ≡ before ++ piece → Grown r between after more → Grown r before after (piece ++ more)
-grown_then (Ok x) before between after piece more first rest = rest ∙ ap (λ bs. bs ++ more) first ∙ append_assoc before piece more
-grown_then (Err e) before between after piece more first rest = tt
-
--- a piece of three parts and then more
-pub grown_then_three : {A E : Type 0} (r : Result A E) (before between after lead middle end more : List ℕ)
-    → between ≡ before ++ (lead ++ (middle ++ end)) → Grown r between after more → Grown r before after (lead ++ (middle ++ (end ++ more)))
-grown_then_three r before between after lead middle end more first rest =
-    grown_as r before after _ _ (append_assoc lead (middle ++ end) more ∙ ap (λ bs. lead ++ bs) (append_assoc middle end more))
-    (grown_then r before between after (lead ++ (middle ++ end)) more first rest)
+use Rattle.grammar.specs.Spelled.{spelled_act, spelled_acts, spelled_task, spelled_tasks}
 
 -- what is printed in the end, where a piece of what is left is printed in a turn
-pub printed_turn : (whole before after piece rest more : List ℕ) → whole ≡ before ++ rest → rest ≡ piece ++ more → after ≡ before ++ piece → whole ≡ after ++ more
+pub printed_turn : (whole before after piece rest more : List ℕ) → before ++ rest ≡ whole → rest ≡ piece ++ more → after ≡ before ++ piece → after ++ more ≡ whole
 printed_turn whole before after piece rest more so_far parts turn =
-    so_far ∙ ap (λ bs. before ++ bs) parts ∙ sym (append_assoc before piece more) ∙ ap (λ bs. bs ++ more) (sym turn)
+    ap (λ bs. bs ++ more) turn ∙ append_assoc before piece more ∙ ap (λ bs. before ++ bs) (sym parts) ∙ so_far
 
-pub printed_end : (whole after rest : List ℕ) → whole ≡ after ++ rest → rest ≡ [] → after ≡ whole
-printed_end whole after rest so_far none = sym (so_far ∙ ap (λ bs. after ++ bs) none ∙ append-nil after)
+printed_end : (whole after rest : List ℕ) → after ++ rest ≡ whole → rest ≡ [] → after ≡ whole
+printed_end whole after rest so_far none = sym (ap (λ bs. after ++ bs) none ∙ append-nil after) ∙ so_far
+
+-- a space and a step
+pub spaced : (before between after act : List ℕ) → between ≡ before ++ 32 ∷ [] → after ≡ between ++ act → after ≡ before ++ (32 ∷ act)
+spaced before between after act space step = step ∙ ap (λ bs. bs ++ act) space ∙ append_assoc before (32 ∷ []) act
 
 pub spelled_acts_turn : (ss : List Step) (i : ℕ) (d : Step) → i < length ss → spelled_acts (map act_of (drop i ss)) ≡ (32 ∷ spelled_act (act_of (get_or ss i d))) ++ spelled_acts (map act_of (drop (i + 1) ss))
 unfolding spelled_acts
 spelled_acts_turn ss i d below = ap (λ us. spelled_acts (map act_of us)) (drop_more ss i d below)
 
-pub spelled_acts_none : spelled_acts (map act_of []) ≡ []
+pub acts_printed : (whole after : List ℕ) (ss : List Step) (i : ℕ) → length ss ≤ i → after ++ spelled_acts (map act_of (drop i ss)) ≡ whole → after ≡ whole
 unfolding spelled_acts
-spelled_acts_none = refl
+acts_printed whole after ss i past so_far = printed_end whole after _ so_far (at_drop_all (λ us. spelled_acts (map act_of us)) ss i past)
 
 pub spelled_tasks_turn : (ts : List TaskForm) (i : ℕ) (t : TaskForm) → i < length ts → t ≡ get_or ts i t → spelled_tasks (map task_of (drop i ts)) ≡ spelled_task (task_of t) ++ spelled_tasks (map task_of (drop (i + 1) ts))
 unfolding spelled_tasks
 spelled_tasks_turn ts i t below is =
     ap (λ us. spelled_tasks (map task_of us)) (drop_more ts i t below) ∙ ap (λ u. spelled_task (task_of u) ++ spelled_tasks (map task_of (drop (i + 1) ts))) (sym is)
 
-pub spelled_tasks_none : spelled_tasks (map task_of []) ≡ []
+pub tasks_printed : (whole after : List ℕ) (ts : List TaskForm) (i : ℕ) → length ts ≤ i → after ++ spelled_tasks (map task_of (drop i ts)) ≡ whole → after ≡ whole
 unfolding spelled_tasks
-spelled_tasks_none = refl
+tasks_printed whole after ts i past so_far = printed_end whole after _ so_far (at_drop_all (λ us. spelled_tasks (map task_of us)) ts i past)
 
--- a space and a step
-pub spaced : (before between after act : List ℕ) → between ≡ before ++ 32 ∷ [] → after ≡ between ++ act → after ≡ before ++ (32 ∷ act)
-spaced before between after act space step = step ∙ ap (λ bs. bs ++ act) space ∙ append_assoc before (32 ∷ []) act
+-- the last piece is put, where what was put before and that piece are what is to be added
+pub grown_last : {A E : Type 0} (r : Result A E) (start before after piece more : List ℕ) → before ++ piece ≡ start ++ more → after ≡ (if is_ok r then before ++ piece else before) → Grown r start after more
+grown_last (Ok x) start before after piece more parts is = is ∙ parts
+grown_last (Err e) start before after piece more parts is = tt

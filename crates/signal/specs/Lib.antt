@@ -1,5 +1,4 @@
-pub mod Phase
-pub mod Switch
 pub mod Complete
 pub mod Model
 pub mod Laws
+pub mod Calls

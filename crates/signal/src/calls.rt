@@ -1,47 +1,27 @@
 // What tasks and the executor do with the stopper.
-ghost use Rattle.std.specs.Prelude.{◌≡◌, ◌+◌, ◌^◌, ◌<◌, ◌≤◌, not, ◌&&◌, [], length, is_some, IfOk, if◌then◌else◌, Some, vec_len, vec_capacity};
-ghost use Rattle.oneshot.specs.Cell.{held};
-ghost use Rattle.roster.specs.declared.row.Whom.TheVariants.{Asked};
-ghost use Rattle.roster.specs.Row.{most_tasks};
+ghost use Rattle.std.specs.Prelude.{◌≡◌, ◌+◌, ◌^◌, ◌<◌, ◌≤◌, not, ◌&&◌, [], length, IfOk, if◌then◌else◌};
+ghost use Rattle.roster.specs.Row.{most_tasks, has_asked};
 ghost use Rattle.roster.specs.Model.{called, Ascending};
-ghost use Rattle.roster.specs.Model.{view as roll_of};
-ghost use Rattle.signal.specs.Switch.{stop_value};
-ghost use Rattle.signal.specs.Complete.{complete_with};
-ghost use Rattle.signal.specs.Model.{view, woken_by, unstopped, entered, given, signal_answer, awaiting, stopped_by, stop_wakes, completed_answer, asking, let_go, ended, completion_wakes};
-ghost use Rattle.signal.specs.Laws.{Keeps, StopWakes, CompletionWakes};
+ghost use Rattle.signal.specs.Model.{view, woken_by, unstopped, complete, entered, given, signal_answer, awaiting, stopped_by, stop_wakes, completed_answer, asking, let_go, ended};
+ghost use Rattle.signal.specs.Laws.{Keeps, StopWakes};
+ghost use Rattle.signal.specs.Calls.{Makes, Settles};
 
-use crate::switch::{Call, Said, Switch};
-use crate::{Poll, Refusal, Stopper};
+use crate::{Refusal, Stopper};
 use oneshot::OneShot;
-use roster::row::{Step, Whom};
-use roster::{MOST_TASKS, Roster};
+use reserved::Reserved;
+use roster::Roster;
+use roster::row::{Row, Signal};
 use std::alloc::{AllocError, Global};
-
-// Sends completion if there was a stop and no open signal is held, and lists whom it wakes if it comes now.
-fn settle(switch: &Switch, roster: &Roster, completion: &mut OneShot<()>, woken: &mut Vec<u64>)
-    requires { most_tasks ≤ vec_capacity woken.old }
-    ensures completion { held completion.new ≡ (if complete_with (stop_value switch.now) (roll_of roster.now).rows then Some tt else held completion.old) }
-    ensures woken { woken.new.items ≡ (if complete_with (stop_value switch.now) (roll_of roster.now).rows && not (is_some (held completion.old)) then called Asked (roll_of roster.now).rows else []) }
-    ensures capacity { vec_capacity woken.new ≡ vec_capacity woken.old }
-    ensures ascending { Ascending woken.new.items }
-    ensures few { vec_len woken.new ≤ most_tasks }
-{
-    woken.clear();
-    if switch.is_stopped() && !roster.some_open() && completion.send(()).is_ok() {
-        roster.list(Whom::Asked, woken);
-    }
-}
 
 impl Stopper {
     // Running, with no task yet and the memory for MOST_TASKS of them.
     pub fn new(heap: Global) -> Result<Stopper, AllocError>
         ensures made { IfOk result (λ s. (view s ≡ unstopped) × (woken_by s ≡ [])) }
     {
-        let woken = Vec::with_capacity(heap, MOST_TASKS)?;
+        let woken = Reserved::new(heap)?;
         let roster = Roster::new(heap)?;
         Ok(Stopper {
-            switch: Switch::new(),
-            completion: OneShot::new(),
+            value: OneShot::new(),
             roster,
             woken,
         })
@@ -52,40 +32,43 @@ impl Stopper {
         requires rises { (view self.old).roll.next ≤ task }
         requires fits { task + 1 < 2 ^ 64 }
         requires few { length (view self.old).roll.rows < most_tasks }
-        ensures state { view self.new ≡ entered task (view self.old) }
-        ensures woken { woken_by self.new ≡ woken_by self.old }
-        ensures keeps { Keeps (view self.old) (view self.new) }
+        ensures { Makes (entered task) self.old self.new }
     {
         self.roster.register(task);
     }
 
-    // Gives the task a signal, unless it holds one: open before the stop, closed after it.
-    pub fn stopped(&mut self, task: u64)
-        ensures state { view self.new ≡ given task (view self.old) }
-        ensures woken { woken_by self.new ≡ woken_by self.old }
-        ensures keeps { Keeps (view self.old) (view self.new) }
+    // Whether a stop has come and no task holds an open signal.
+    fn is_complete(&self) -> bool
+        ensures { result ≡ complete (view self.now) }
     {
-        let step = self.switch.offer();
-        self.roster.turn(step, task);
+        self.value.is_sent() && !self.roster.some_open()
     }
 
-    // The first stop value, or pending, and then the task waits for it. Refused to a task that holds no signal.
-    pub fn signal(&mut self, task: u64) -> Result<Poll<i32>, Refusal>
+    // Gives the task a signal, unless it holds one: open before the stop, closed after it.
+    pub fn stopped(&mut self, task: u64)
+        ensures { Makes (given task) self.old self.new }
+    {
+        let signal = if self.value.is_sent() {
+            Signal::Closed
+        } else {
+            Signal::Open
+        };
+        self.roster.turn(task, |row| row.take(signal));
+    }
+
+    // The first stop value, or none yet, and then the task waits for it. Refused to a task that holds no signal.
+    pub fn signal(&mut self, task: u64) -> Result<Option<i32>, Refusal>
         ensures answer { result ≡ signal_answer task (view self.old) }
-        ensures state { view self.new ≡ awaiting task (view self.old) }
-        ensures woken { woken_by self.new ≡ woken_by self.old }
-        ensures keeps { Keeps (view self.old) (view self.new) }
+        ensures state { Makes (awaiting task) self.old self.new }
     {
         if !self.roster.holds(task) {
             return Err(Refusal::NoSignal);
         }
-        match self.switch.handle(Call::Ask) {
-            Said::Value(value) => Ok(Poll::Ready(value)),
-            _ => {
-                self.roster.turn(Step::Await, task);
-                Ok(Poll::Pending)
-            }
+        let value = self.value.get().copied();
+        if value.is_none() {
+            self.roster.turn(task, Row::wait);
         }
+        Ok(value)
     }
 
     // Stops. The first stop wakes those waiting, and if no open signal is held completion comes with it,
@@ -96,67 +79,57 @@ impl Stopper {
         ensures keeps { Keeps (view self.old) (view self.new) }
         ensures wakes { StopWakes (view self.old) (woken_by self.new) }
     {
-        match self.switch.handle(Call::Stop(value)) {
-            Said::First => {
-                settle(
-                    &self.switch,
-                    &self.roster,
-                    &mut self.completion,
-                    &mut self.woken,
-                );
-                self.roster.list(Whom::Waiting, &mut self.woken);
-            }
-            _ => self.woken.clear(),
+        if self.value.send(value).is_ok() {
+            self.roster.list(Row::is_waiting, &mut self.woken);
+        } else {
+            self.woken.clear();
         }
     }
 
     // Whether all is complete; if not, the task has asked for it. Refused before the stop.
-    pub fn completed(&mut self, task: u64) -> Result<Poll<()>, Refusal>
+    pub fn completed(&mut self, task: u64) -> Result<bool, Refusal>
         ensures answer { result ≡ completed_answer (view self.old) }
-        ensures state { view self.new ≡ asking task (view self.old) }
-        ensures woken { woken_by self.new ≡ woken_by self.old }
-        ensures keeps { Keeps (view self.old) (view self.new) }
+        ensures state { Makes (asking task) self.old self.new }
     {
-        if !self.switch.is_stopped() {
+        if !self.value.is_sent() {
             return Err(Refusal::NotStopped);
         }
-        if self.completion.is_sent() {
-            return Ok(Poll::Ready(()));
+        let complete = self.is_complete();
+        if !complete {
+            self.roster.turn(task, Row::ask);
         }
-        self.roster.turn(Step::AskCompletion, task);
-        Ok(Poll::Pending)
+        Ok(complete)
+    }
+
+    // Lists whom completion wakes, if it comes now: those who asked for it, if all was not complete before.
+    fn settle(&mut self, was_complete: bool)
+        ensures state { view self.new ≡ view self.old }
+        ensures woken { woken_by self.new ≡ (if complete (view self.old) && not was_complete then called has_asked (view self.old).roll.rows else []) }
+        ensures ascending { Ascending (woken_by self.new) }
+    {
+        if self.is_complete() && !was_complete {
+            self.roster.list(Row::has_asked, &mut self.woken);
+        } else {
+            self.woken.clear();
+        }
     }
 
     // Ends the task's signal, if it holds one. With the last open signal after the stop completion comes.
     pub fn let_go(&mut self, task: u64)
-        ensures state { view self.new ≡ let_go task (view self.old) }
-        ensures woken { woken_by self.new ≡ completion_wakes (view self.old) (view self.new) }
-        ensures keeps { Keeps (view self.old) (view self.new) }
-        ensures wakes { CompletionWakes (view self.old) (view self.new) (woken_by self.new) }
+        ensures { Settles (let_go task) self.old self.new }
     {
-        self.roster.turn(Step::LetGo, task);
-        settle(
-            &self.switch,
-            &self.roster,
-            &mut self.completion,
-            &mut self.woken,
-        );
+        let was_complete = self.is_complete();
+        self.roster.turn(task, Row::let_go);
+        self.settle(was_complete);
     }
 
     // The task ends: its signal goes, and it is woken no more. With the last open signal after the stop completion comes.
     pub fn end(&mut self, task: u64)
-        ensures state { view self.new ≡ ended task (view self.old) }
-        ensures woken { woken_by self.new ≡ completion_wakes (view self.old) (view self.new) }
-        ensures keeps { Keeps (view self.old) (view self.new) }
-        ensures wakes { CompletionWakes (view self.old) (view self.new) (woken_by self.new) }
+        ensures { Settles (ended task) self.old self.new }
     {
+        let was_complete = self.is_complete();
         self.roster.strike(task);
-        settle(
-            &self.switch,
-            &self.roster,
-            &mut self.completion,
-            &mut self.woken,
-        );
+        self.settle(was_complete);
     }
 
     // Whom the last stop, letting go or end of a task woke, by ascending id.

@@ -4,7 +4,7 @@
 #[cfg(test)]
 mod tests {
     use oneshot::OneShot;
-    use signal::{Poll, Stopper};
+    use signal::{Refusal, Stopper};
     use std::alloc::{AllocError, Global};
     use std::test::Fail;
 
@@ -17,48 +17,28 @@ mod tests {
         Ok(stopper)
     }
 
-    // Whether the task is pending on its signal.
-    fn waits(stopper: &mut Stopper, task: u64) -> bool {
-        matches!(stopper.signal(task), Ok(Poll::Pending))
-    }
-
-    // Whether the task learns this stop value.
-    fn learns(stopper: &mut Stopper, task: u64, value: i32) -> bool {
-        match stopper.signal(task) {
-            Ok(Poll::Ready(first)) => first == value,
-            _ => false,
-        }
-    }
-
-    // Whether the task asks for completion and has to wait for it.
-    fn asks(stopper: &mut Stopper, task: u64) -> bool {
-        matches!(stopper.completed(task), Ok(Poll::Pending))
-    }
-
-    // Whether completion has come.
-    fn is_complete(stopper: &mut Stopper, task: u64) -> bool {
-        matches!(stopper.completed(task), Ok(Poll::Ready(_)))
-    }
-
     #[test]
     fn the_first_value_sent_stays(rt: HostRuntime) {
         let mut fault: OneShot<u32> = OneShot::new();
         assert!(rt; fault.send(7).is_ok());
         assert_eq!(rt; fault.send(8), Err(8));
-        assert!(rt; matches!(fault.get(), Some(7)) && fault.is_sent());
+        assert_eq!(rt; fault.get(), Some(&7));
+        assert!(rt; fault.is_sent());
     }
 
     #[test]
     fn the_first_stop_value_stays_and_is_answered_again(rt: HostRuntime) -> Result<(), Fail> {
         let mut stopper = three_tasks(rt.alloc())?;
-        assert!(rt; stopper.signal(2).is_err() && stopper.completed(2).is_err());
+        assert_eq!(rt; stopper.signal(2), Err(Refusal::NoSignal));
+        assert_eq!(rt; stopper.completed(2), Err(Refusal::NotStopped));
         stopper.stopped(2);
-        assert!(rt; waits(&mut stopper, 2));
+        assert_eq!(rt; stopper.signal(2), Ok(None));
         stopper.stop(-4);
-        assert!(rt; stopper.woken() == [2].as_slice());
+        assert_eq!(rt; stopper.woken(), [2].as_slice());
         stopper.stop(9);
         assert!(rt; stopper.woken().is_empty());
-        assert!(rt; learns(&mut stopper, 2, -4) && learns(&mut stopper, 2, -4));
+        assert_eq!(rt; stopper.signal(2), Ok(Some(-4)));
+        assert_eq!(rt; stopper.signal(2), Ok(Some(-4)));
         Ok(())
     }
 
@@ -68,9 +48,10 @@ mod tests {
         stopper.stopped(3);
         stopper.stopped(2);
         stopper.stopped(1);
-        assert!(rt; waits(&mut stopper, 3) && waits(&mut stopper, 1));
+        assert_eq!(rt; stopper.signal(3), Ok(None));
+        assert_eq!(rt; stopper.signal(1), Ok(None));
         stopper.stop(0);
-        assert!(rt; stopper.woken() == [1, 3].as_slice());
+        assert_eq!(rt; stopper.woken(), [1, 3].as_slice());
         Ok(())
     }
 
@@ -80,11 +61,14 @@ mod tests {
         stopper.stopped(1);
         stopper.stop(0);
         stopper.stopped(2);
-        assert!(rt; asks(&mut stopper, 3) && asks(&mut stopper, 1));
+        assert_eq!(rt; stopper.completed(3), Ok(false));
+        assert_eq!(rt; stopper.completed(1), Ok(false));
         stopper.let_go(1);
-        assert!(rt; stopper.woken() == [1, 3].as_slice() && is_complete(&mut stopper, 2));
+        assert_eq!(rt; stopper.woken(), [1, 3].as_slice());
+        assert_eq!(rt; stopper.completed(2), Ok(true));
         stopper.let_go(1);
-        assert!(rt; stopper.woken().is_empty() && is_complete(&mut stopper, 2));
+        assert!(rt; stopper.woken().is_empty());
+        assert_eq!(rt; stopper.completed(2), Ok(true));
         Ok(())
     }
 
@@ -93,9 +77,11 @@ mod tests {
         let mut stopper = three_tasks(rt.alloc())?;
         stopper.stopped(1);
         stopper.stop(0);
-        assert!(rt; asks(&mut stopper, 1) && asks(&mut stopper, 2));
+        assert_eq!(rt; stopper.completed(1), Ok(false));
+        assert_eq!(rt; stopper.completed(2), Ok(false));
         stopper.end(1);
-        assert!(rt; stopper.woken() == [2].as_slice() && is_complete(&mut stopper, 3));
+        assert_eq!(rt; stopper.woken(), [2].as_slice());
+        assert_eq!(rt; stopper.completed(3), Ok(true));
         Ok(())
     }
 }

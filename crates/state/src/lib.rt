@@ -1,24 +1,18 @@
 // The state of an executor: every part that a run works on, its memory reserved at the start.
 #![tactic(auto)]
 
+pub mod faults;
 pub mod making;
 
 use alarms::Alarms;
 use auditor::Auditor;
+use deterministic::body::Body;
+use deterministic::clock::Clock;
+use deterministic::counts::Counts;
 use dispatch::Dispatcher;
-use model::body::Body;
-use model::clock::Clock;
-use model::counts::Counts;
-use oneshot::OneShot;
+use faults::Faults;
 use signal::Stopper;
 use supervision::Tree;
-
-// What becomes of faults: caught, or the first of them kept for the root.
-#[derive(Drop)]
-pub struct Faults {
-    pub caught: bool,
-    pub kept: OneShot<u32>,
-}
 
 #[derive(Drop)]
 pub struct State {

@@ -7,20 +7,20 @@ ghost use Rattle.supervision.specs.Calls.{view as tree_of, founded};
 ghost use Rattle.alarms.specs.Model.{view as bells_of, silent};
 ghost use Rattle.queues.specs.View.{view as queues_of, nothing_queued};
 ghost use Rattle.tasks.specs.Model.{view as registry_of};
-ghost use Rattle.model.specs.Model.{queued};
-ghost use Rattle.model.specs.Start.{idle_at, root_alone};
+ghost use Rattle.deterministic.specs.Model.{queued};
+ghost use Rattle.deterministic.specs.Start.{idle_at, root_alone};
 ghost use Rattle.state.specs.View.{view};
 
-use crate::{Faults, State};
+use crate::State;
+use crate::faults::Faults;
 use alarms::Alarms;
 use auditor::Auditor;
+use deterministic::body::Body;
+use deterministic::clock::Clock;
+use deterministic::counts::Counts;
 use dispatch::Dispatcher;
 use entry::Entry;
 use ledger::Ledger;
-use model::body::Body;
-use model::clock::Clock;
-use model::counts::Counts;
-use oneshot::OneShot;
 use queues::Queues;
 use signal::Stopper;
 use std::alloc::{AllocError, Global};
@@ -97,10 +97,7 @@ impl State {
             tree,
             alarms,
             stop,
-            faults: Faults {
-                caught,
-                kept: OneShot::new(),
-            },
+            faults: Faults::new(caught),
             counts: Counts {
                 iterations: 0,
                 spawned: 0,

@@ -1,8 +1,9 @@
 -- Each call keeps all that always holds of a tree.
-use Rattle.std.proofs.Common.{◌≡◌, ℕ, Bool, true, false, cond, [], map, Some, None, Option, sym, refl, ap, ◌∙◌, subst, inl, inr, arith}
+use Rattle.std.proofs.Common.{◌≡◌, ℕ, Bool, true, false, cond, [], map, Some, None, Ok, Option, sym, refl, ap, ◌∙◌, subst, inl, inr, arith}
 use Rattle.std.proofs.lemmas.Bool.{false≢true, cases_Bool}
-use Rattle.keyed.specs.Choices.{given, holds}
+use Rattle.keyed.specs.Choices.{given, answered, holds}
 use Rattle.keyed.proofs.Finds.{some_not_none}
+use Rattle.keyed.proofs.Answers.{answered_ok}
 use Rattle.nodes.specs.declared.Node.{Node}
 use Rattle.nodes.specs.Node.{with_owner, with_task, with_stale, released, vacated, taken}
 use Rattle.lineage.specs.Family.{Family, family, node_at, changed, open_for, aborted_at}
@@ -123,16 +124,16 @@ pub flag_at : (s : ℕ) (F : Family) (n : Node) (b : Bool) → Lives F s n → a
 flag_at s F n b l h = sym (ap (λ (o : Option Node). given o false (λ m. m.aborted)) l) ∙ h
 
 -- what is not refused is open
-pub not_refused : (task s : ℕ) (F : Family) → child_refusal task s F ≡ None → open_for task s F ≡ true
-not_refused task s F h = elim (cases_Bool (open_for task s F)) [
+pub granted_open : (task s : ℕ) (F : Family) → Ok tt ≡ answered (child_refusal task s F) (tt {0}) → open_for task s F ≡ true
+granted_open task s F h = elim (cases_Bool (open_for task s F)) [
   | inl e ↦ e
-  | inr e ↦ (let g : Some NotOpen ≡ None = rw e at h in absurd (some_not_none g refl))
+  | inr e ↦ (let g : Some NotOpen ≡ None = rw e at (answered_ok (child_refusal task s F) tt tt (sym h)).0 in absurd (some_not_none g refl))
 ]
 
 -- what holds of every tree
 pub whole_of : (t : Tree) → Whole (view t)
 whole_of t = record {
-  solid = record { frame = record { order = t.nodes.order; rooted = t.rooted; honest = t.honest; past = t.past }; shielded = t.shielded; linked = t.linked };
+  solid = record { frame = record { order = t.lineage.nodes.table.order; rooted = t.rooted; honest = t.honest; past = t.past }; shielded = t.shielded; linked = t.linked };
   kept = t.kept;
   single = t.single;
 }

@@ -1,5 +1,5 @@
 -- What a tree stands for, what each call answers, and what it makes of the tree.
-use Rattle.std.specs.Prelude.{ℕ, false, cond, List, [], map, length, Some, None, filter, Option}
+use Rattle.std.specs.Prelude.{◌≡◌, ℕ, false, cond, List, [], map, length, Some, None, filter, Option}
 use Rattle.std.specs.Option.{option_map}
 use Rattle.keyed.specs.Choices.{whether}
 use Rattle.keyed.specs.Members.{first}
@@ -9,13 +9,14 @@ use Rattle.lineage.specs.Family.{Family, family, family_of, changed, open_for, a
 use Rattle.lineage.specs.Births.{grown, orphaned, born, link_free}
 use Rattle.lineage.specs.Deaths.{settled}
 use Rattle.lineage.specs.Walked.{to_mark}
+use Rattle.supervision.specs.Laws.{Later}
 use Rattle.supervision.specs.declared.Refusal.{Refusal}
 use Rattle.supervision.specs.declared.Refusal.TheVariants.{NotOpen, NoNode, NoLink}
 use Rattle.supervision.specs.declared.Tree.{Tree}
 
 -- the tree as a reader sees it
 abbrev pub view : Tree → Family
-view t = family_of t.nodes t.links
+view t = family_of t.lineage
 
 -- the tasks that the last cascade gave
 abbrev pub given_tasks : Tree → List ℕ
@@ -71,3 +72,8 @@ closed_all task F = settled (family (map (released task) F.nodes) F.links F.next
 -- the task leaves its node, and what nothing keeps alive then dies
 abbrev pub left : ℕ → Family → Family
 left task F = settled (family (map (vacated task) F.nodes) F.links F.next)
+
+-- what a call that gives no tasks keeps: those that the last cascade gave are as they were; so many serials are given out
+pub record Keeps (new : ℕ) (t u : Tree) : Type 0 where
+  pub marks : given_tasks u ≡ given_tasks t
+  pub later : Later new (view t) (view u)

@@ -43,3 +43,8 @@ pub record Aged (F G : Family) : Type 0 where
   pub gone : (t : ℕ) → t < F.next → node_at t F ≡ None → node_at t G ≡ None
   -- a node that was not there before has a serial that was not given out
   pub fresh : (t : ℕ) (n : Node) → Lives G t n → node_at t F ≡ None → F.next ≤ t
+
+-- G comes after F, and so many serials were given out between
+pub record Later (new : ℕ) (F G : Family) : Type 0 where
+  pub serials : Aged F G
+  pub next : G.next ≡ F.next + new

@@ -10,56 +10,49 @@ use crate::{Refusal, Tree};
 use lineage::births::STALE_LINKS;
 use links::MOST_LINKS;
 use nodes::MOST_NODES;
-use nodes::reads::holds;
 
 impl Tree {
     // How many nodes live.
     pub fn len(&self) -> usize
         ensures { result ≡ length (view self.now).nodes }
     {
-        self.nodes.len()
+        self.lineage.nodes.len()
     }
 
     // The serial that the next context gets.
     pub fn next_serial(&self) -> u64
         ensures { result ≡ (view self.now).next }
     {
-        self.nodes.next_serial()
+        self.lineage.nodes.next_serial()
     }
 
     // Whether the context is open and the task holds it.
     pub fn is_open(&self, task: u64, context: u64) -> bool
         ensures { result ≡ open_for task context (view self.now) }
     {
-        match self.nodes.find(context) {
-            Some(node) => holds(node.owner, task),
-            None => false,
-        }
+        self.lineage
+            .nodes
+            .find(context)
+            .is_some_and(|node| node.owner == Some(task))
     }
 
-    // Whether the context's node is aborted; then all that lives under it is aborted too.
+    // Whether the context's node is aborted; then all that lives under it is aborted too. A dead
+    // node is not.
     pub fn is_aborted(&self, context: u64) -> bool
         ensures answer { result ≡ aborted_at context (view self.now) }
         ensures law { result ≡ true → AllAborted context (view self.now) }
     {
-        self.flag(context)
-    }
-
-    // The flag of the context's node; a dead node has none.
-    fn flag(&self, context: u64) -> bool
-        ensures { result ≡ aborted_at context (view self.now) }
-    {
-        match self.nodes.find(context) {
-            Some(node) => node.aborted,
-            None => false,
-        }
+        self.lineage
+            .nodes
+            .find(context)
+            .is_some_and(|node| node.aborted)
     }
 
     // Whether one more node may live.
     pub fn has_node(&self) -> bool
         ensures { result ≡ node_free (view self.now) }
     {
-        self.nodes.len() < MOST_NODES
+        self.lineage.nodes.len() < MOST_NODES
     }
 
     // Whether one more child may be linked below the context's node, once its dead links are
@@ -67,32 +60,37 @@ impl Tree {
     pub fn has_link(&self, context: u64) -> bool
         ensures { result ≡ link_free context (view self.now) }
     {
-        match self.nodes.find(context) {
-            Some(node) => {
-                if node.stale < STALE_LINKS {
-                    self.links.len() < MOST_LINKS
-                } else {
-                    self.links.surviving(context, &self.nodes) < MOST_LINKS
-                }
-            }
-            None => self.links.len() < MOST_LINKS,
+        let nodes = &self.lineage.nodes;
+        let links = &self.lineage.links;
+        match nodes.find(context) {
+            Some(node) if node.stale >= STALE_LINKS => links.surviving(context, nodes) < MOST_LINKS,
+            _ => links.len() < MOST_LINKS,
         }
     }
 
-    // Why a context under this one is refused to the task, if it is.
-    pub fn child_refusal(&self, task: u64, context: u64) -> Option<Refusal>
-        ensures { result ≡ child_refusal task context (view self.now) }
+    // Refuses what needs the context, unless it is open and the task holds it.
+    pub(crate) fn check_open(&self, task: u64, context: u64) -> Result<(), Refusal>
+        ensures { result ≡ answered (context_refusal task context (view self.now)) tt }
     {
-        if !self.is_open(task, context) {
-            return Some(Refusal::NotOpen);
+        if self.is_open(task, context) {
+            Ok(())
+        } else {
+            Err(Refusal::NotOpen)
         }
+    }
+
+    // Refuses the task a context under this one, for the first reason that there is.
+    pub fn check_child(&self, task: u64, context: u64) -> Result<(), Refusal>
+        ensures { result ≡ answered (child_refusal task context (view self.now)) tt }
+    {
+        self.check_open(task, context)?;
         if !self.has_node() {
-            return Some(Refusal::NoNode);
+            return Err(Refusal::NoNode);
         }
         if self.is_aborted(context) || self.has_link(context) {
-            None
+            Ok(())
         } else {
-            Some(Refusal::NoLink)
+            Err(Refusal::NoLink)
         }
     }
 
@@ -100,20 +98,15 @@ impl Tree {
     pub fn links(&self, task: u64, context: u64) -> Result<usize, Refusal>
         ensures { result ≡ answered (context_refusal task context (view self.now)) (link_count context (view self.now)) }
     {
-        if !self.is_open(task, context) {
-            return Err(Refusal::NotOpen);
-        }
-        Ok(self.links.count(context))
+        self.check_open(task, context)?;
+        Ok(self.lineage.links.count(context))
     }
 
     // The node where the task is seated. The root task has none.
     pub fn node_of(&self, task: u64) -> Option<u64>
         ensures { result ≡ seat_of task (view self.now) }
     {
-        match self.nodes.seat_of(task) {
-            Some(node) => Some(node.serial),
-            None => None,
-        }
+        self.lineage.nodes.seat_of(task).map(|node| node.serial)
     }
 
     // The tasks that the last cascade gave, in the order in which they are to be marked.

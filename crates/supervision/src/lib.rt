@@ -4,16 +4,15 @@
 ghost use Rattle.lineage.specs.Family.{family_of};
 ghost use Rattle.supervision.specs.Sound.{Rooted, Shielded, Linked, Honest, Past, Kept, Single};
 
+use lineage::Lineage;
 use lineage::walk::Walk;
-use links::Links;
-use nodes::Nodes;
 
 pub mod asks;
 pub mod calls;
 pub mod ends;
 
 // Why a call is refused.
-#[derive(Clone, Copy)]
+#[derive(Clone, Copy, Debug, PartialEq, Eq)]
 pub enum Refusal {
     // The context is not open, or another task's.
     NotOpen,
@@ -26,21 +25,20 @@ pub enum Refusal {
 // The nodes and links of a tree, and the memory of its cascades.
 #[derive(Drop)]
 pub struct Tree {
-    nodes: Nodes,
-    links: Links,
+    lineage: Lineage,
     walk: Walk,
     // The parent of a living node lives.
-    ghost rooted: { Rooted (family_of nodes links) },
+    ghost rooted: { Rooted (family_of lineage) },
     // Every living child of an aborted node is aborted.
-    ghost shielded: { Shielded (family_of nodes links) },
+    ghost shielded: { Shielded (family_of lineage) },
     // Every living child of a node that is not aborted is linked there.
-    ghost linked: { Linked (family_of nodes links) },
+    ghost linked: { Linked (family_of lineage) },
     // A link leads to a child of its parent, or to a dead node.
-    ghost honest: { Honest (family_of nodes links) },
+    ghost honest: { Honest (family_of lineage) },
     // A link leads to a node that was born.
-    ghost past: { Past (family_of nodes links) },
+    ghost past: { Past (family_of lineage) },
     // Whatever lives is kept alive by an open context, a task that has not ended, or a living child.
-    ghost kept: { Kept (family_of nodes links) },
+    ghost kept: { Kept (family_of lineage) },
     // No task is seated at two nodes.
-    ghost single: { Single (family_of nodes links) },
+    ghost single: { Single (family_of lineage) },
 }

@@ -6,42 +6,27 @@ use supervision::Tree;
 const MANY: u64 = 1_000_000;
 
 // A context under the top, for the root task.
-fn child_of_top(tree: &mut Tree) -> Result<(u64, bool), &'static str> {
+fn child_of_top(tree: &mut Tree) -> Result<(u64, bool), Fail> {
     if tree.next_serial() >= MANY {
-        return Err("too many serials");
+        return Err(Fail::new("too many serials"));
     }
-    match tree.child(0, 0) {
-        Ok(context) => Ok(context),
-        Err(_) => Err("refused"),
-    }
+    Ok(tree.child(0, 0)?)
 }
 
 // As many children of the top are born and die.
-fn deaths_below_top(tree: &mut Tree, deaths: u64) -> Result<(), &'static str> {
+fn deaths_below_top(tree: &mut Tree, deaths: u64) -> Result<(), Fail> {
     for _ in 0..deaths {
         let (context, _) = child_of_top(tree)?;
-        if tree.close(0, context).is_err() {
-            return Err("refused");
-        }
+        tree.close(0, context)?;
     }
     Ok(())
 }
 
-// The links of the top.
-fn links_of_top(tree: &Tree) -> Result<usize, &'static str> {
-    match tree.links(0, 0) {
-        Ok(links) => Ok(links),
-        Err(_) => Err("refused"),
-    }
-}
-
 // A new task at a context under the top; gives the context that the task holds.
-fn spawn_below_top(tree: &mut Tree, task: u64) -> Result<u64, &'static str> {
+fn spawn_below_top(tree: &mut Tree, task: u64) -> Result<u64, Fail> {
     let (context, _) = child_of_top(tree)?;
-    if tree.node_of(task).is_some() {
-        return Err("seated");
-    }
-    if tree.next_serial() < MANY
+    if tree.node_of(task).is_none()
+        && tree.next_serial() < MANY
         && tree.is_open(0, context)
         && !tree.is_aborted(context)
         && tree.has_node()
@@ -49,7 +34,7 @@ fn spawn_below_top(tree: &mut Tree, task: u64) -> Result<u64, &'static str> {
     {
         Ok(tree.seat(0, context, task))
     } else {
-        Err("refused")
+        Err(Fail::new("refused"))
     }
 }
 
@@ -57,9 +42,9 @@ fn spawn_below_top(tree: &mut Tree, task: u64) -> Result<u64, &'static str> {
 fn thirty_one_dead_links_are_kept_when_a_child_is_linked(rt: HostRuntime) -> Result<(), Fail> {
     let mut tree = Tree::new(rt.alloc())?;
     deaths_below_top(&mut tree, 31)?;
-    assert_eq!(rt; links_of_top(&tree)?, 31);
+    assert_eq!(rt; tree.links(0, 0)?, 31);
     let _ = child_of_top(&mut tree)?;
-    assert_eq!(rt; links_of_top(&tree)?, 32);
+    assert_eq!(rt; tree.links(0, 0)?, 32);
     assert_eq!(rt; tree.len(), 2);
     Ok(())
 }
@@ -68,9 +53,9 @@ fn thirty_one_dead_links_are_kept_when_a_child_is_linked(rt: HostRuntime) -> Res
 fn thirty_two_dead_links_are_dropped_when_a_child_is_linked(rt: HostRuntime) -> Result<(), Fail> {
     let mut tree = Tree::new(rt.alloc())?;
     deaths_below_top(&mut tree, 32)?;
-    assert_eq!(rt; links_of_top(&tree)?, 32);
+    assert_eq!(rt; tree.links(0, 0)?, 32);
     let _ = child_of_top(&mut tree)?;
-    assert_eq!(rt; links_of_top(&tree)?, 1);
+    assert_eq!(rt; tree.links(0, 0)?, 1);
     assert_eq!(rt; tree.len(), 2);
     Ok(())
 }
@@ -81,11 +66,9 @@ fn a_cascade_gives_the_last_child_first_and_each_task_once(rt: HostRuntime) -> R
     let _ = spawn_below_top(&mut tree, 1)?;
     let _ = spawn_below_top(&mut tree, 2)?;
     tree.cascade(0);
-    assert!(rt; tree.marks().len() == 2);
-    assert_eq!(rt; tree.marks()[0], 2);
-    assert_eq!(rt; tree.marks()[1], 1);
+    assert_eq!(rt; tree.marks(), [2, 1].as_slice());
     tree.cascade(0);
-    assert!(rt; tree.marks().len() == 0);
+    assert_eq!(rt; tree.marks().len(), 0);
     Ok(())
 }
 
@@ -96,7 +79,7 @@ fn a_child_of_an_aborted_node_is_aborted_and_unlinked(rt: HostRuntime) -> Result
     let (context, aborted) = child_of_top(&mut tree)?;
     assert_eq!(rt; context, 1);
     assert!(rt; aborted);
-    assert_eq!(rt; links_of_top(&tree)?, 0);
+    assert_eq!(rt; tree.links(0, 0)?, 0);
     assert_eq!(rt; tree.len(), 2);
     Ok(())
 }

@@ -1,4 +1,1 @@
-mod Labels
-pub mod Halves
-pub mod Views
 pub mod Registries

@@ -1,26 +1,24 @@
--- A registry by its parts, and what holds of the registry of any tasks.
-use Rattle.std.proofs.Common.{◌≡◌, ℕ, suc, ◌≤◌, true, List, [], ◌∷◌, length, None, vec_items, refl, arith}
+-- What holds of the registry of any tasks.
+use Rattle.std.proofs.Common.{◌≡◌, ℕ, suc, ◌≤◌, true, List, [], ◌∷◌, length, None, refl, ◌∙◌, arith}
+use Rattle.std.proofs.lemmas.List.{length-map}
 use Rattle.std.proofs.lemmas.Bool.{ne_eqb}
 use Rattle.keyed.specs.Keyed.{ordered, find}
 use Rattle.keyed.proofs.Orders.{ordered_first, ordered_bounds}
-use Rattle.model.specs.Model.{Task, Registry, id_of}
+use Rattle.keyed.specs.Table.{rows, next_key}
+use Rattle.keyed.proofs.Views.{ordered_view}
+use Rattle.deterministic.specs.Model.{id_of}
 use Rattle.tasks.specs.declared.Tasks.{Tasks}
 use Rattle.tasks.specs.Limits.{most_tasks}
 use Rattle.tasks.specs.Task.{task_view}
 use Rattle.tasks.specs.Model.{view}
-use Rattle.tasks.proofs.Views.{map_length}
-
--- these tasks, with the next id
-abbrev pub with_tasks : ℕ → List Task → Registry
-with_tasks next tasks = record { tasks = tasks; next = next }
 
 -- at most so many tasks are registered
 pub few_tasks : (t : Tasks) → length (view t).tasks ≤ most_tasks
-few_tasks t = omega (arith, map_length task_view (vec_items t.tasks) _ t.tasks.ok.0, t.few)
+few_tasks t = omega (arith, length-map (rows t.tasks) task_view, t.tasks.rows.few, t.tasks.rows.list.ok.0)
 
 -- the ids ascend, and each is below the next one
 pub ordered_tasks : (t : Tasks) → ordered id_of 0 (view t).next (view t).tasks ≡ true
-ordered_tasks t = t.order
+ordered_tasks t = ordered_view task_view (λ u. u.id) id_of (λ _. refl) 0 (next_key t.tasks) (rows t.tasks) ∙ t.tasks.order
 
 -- where the keys end there is none
 find_high : {X : Type 0} (key : X → ℕ) (lo hi k : ℕ) (xs : List X) → ordered key lo hi xs ≡ true → hi ≤ k → find key k xs ≡ None
@@ -31,4 +29,4 @@ find_high key lo hi k (x ∷ xs) o h =
 
 -- the next id is no task's
 pub find_next : (t : Tasks) → find id_of (view t).next (view t).tasks ≡ None
-find_next t = find_high id_of 0 t.next t.next (view t).tasks t.order (omega arith)
+find_next t = find_high id_of 0 (view t).next (view t).next (view t).tasks (ordered_tasks t) (omega arith)

@@ -1,6 +1,6 @@
 -- The task that a record of one stands for.
 use Rattle.std.specs.Prelude.{List, map}
-use Rattle.model.specs.Model as model
+use Rattle.deterministic.specs.Model as model
 use Rattle.tasks.specs.declared.task.Task.{Task}
 use Rattle.tasks.specs.Label.{label_bytes}
 

@@ -1,13 +1,15 @@
 // How the tasks are made and changed.
 ghost use Rattle.std.specs.Prelude.{◌≡◌, ◌+◌, ◌^◌, ◌<◌, length, IfOk};
-ghost use Rattle.model.specs.Model.{with_task, with_changed, without_task, marked, pended};
+ghost use Rattle.deterministic.specs.Model.{Task as Registered, id_of, with_task, with_changed, without_task, marked, pended};
 ghost use Rattle.tasks.specs.Limits.{most_tasks};
 ghost use Rattle.tasks.specs.Label.{label_bytes};
+ghost use Rattle.tasks.specs.Task.{task_view};
 ghost use Rattle.tasks.specs.Model.{view, nobody};
 
+use crate::Tasks;
 use crate::label::Label;
 use crate::task::Task;
-use crate::{MOST_TASKS, Tasks};
+use keyed::table::Table;
 use std::alloc::{AllocError, Global};
 
 impl Tasks {
@@ -15,8 +17,8 @@ impl Tasks {
     pub fn new(heap: Global) -> Result<Tasks, AllocError>
         ensures made { IfOk result (λ t. view t ≡ nobody) }
     {
-        let tasks = Vec::with_capacity(heap, MOST_TASKS)?;
-        Ok(Tasks { tasks, next: 0 })
+        let tasks = Table::new(heap)?;
+        Ok(Tasks { tasks })
     }
 
     // Registers a task under the next id, and answers that id.
@@ -26,36 +28,42 @@ impl Tasks {
         ensures id { result ≡ (view self.old).next }
         ensures after { view self.new ≡ with_task (view self.old).next (label_bytes label) node (view self.old) }
     {
-        let id = self.next;
-        self.tasks.push_reserved(Task::new(id, label, node));
-        self.next = id + 1;
+        let id = self.tasks.next();
+        self.tasks.push(Task::new(id, label, node));
         id
+    }
+
+    // The table's own `change` asks of every step that it keeps the key; here that is a premise of what is promised.
+    // Puts the task of this id back as the step leaves it, if it is registered.
+    fn change<F: FnOnce(Task) -> Task>(&mut self, id: u64, step: F)
+        requires { F.IsAlwaysCallable step }
+        ensures { (g : Registered → Registered) → ((t : Registered) → id_of (g t) ≡ id_of t)
+            → ((x y : Task) → F.post step x y → task_view y ≡ g (task_view x))
+            → view self.new ≡ with_changed g id (view self.old) }
+    {
+        if let Some(task) = self.tasks.find(id) {
+            self.tasks.put(step(task));
+        }
     }
 
     // Marks the task of this id aborted, if it is registered.
     pub fn mark(&mut self, id: u64)
         ensures { view self.new ≡ with_changed marked id (view self.old) }
     {
-        if let Some(at) = self.place(id) {
-            self.tasks[at].mark();
-        }
+        self.change(id, Task::mark);
     }
 
     // Notes that the body of the task of this id has come to pending, if it is registered.
     pub fn pend(&mut self, id: u64)
         ensures { view self.new ≡ with_changed pended id (view self.old) }
     {
-        if let Some(at) = self.place(id) {
-            self.tasks[at].pend();
-        }
+        self.change(id, Task::pend);
     }
 
     // Strikes the task of this id, if it is registered. Its id is not given out again.
     pub fn remove(&mut self, id: u64)
         ensures { view self.new ≡ without_task id (view self.old) }
     {
-        if let Some(at) = self.place(id) {
-            let _ = self.tasks.remove(at);
-        }
+        self.tasks.remove(id);
     }
 }

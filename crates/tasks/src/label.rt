@@ -7,7 +7,8 @@ mod text;
 // The most bytes that a label has.
 pub const MOST_LABEL: usize = 32;
 
-// The first `len` bytes are the label.
+// The first `len` bytes are the label. It is no string, since no call may allocate, and no vector with a fixed room, since a
+// task is copied and such a vector cannot be.
 #[derive(Clone, Copy)]
 pub struct Label {
     bytes: [u8; MOST_LABEL],

@@ -1,10 +1,11 @@
 // One registered task.
 ghost use Rattle.std.specs.Prelude.{◌≡◌};
-ghost use Rattle.model.specs.Model.{new_task, marked, pended};
+ghost use Rattle.deterministic.specs.Model.{new_task, marked, pended};
 ghost use Rattle.tasks.specs.Label.{label_bytes};
 ghost use Rattle.tasks.specs.Task.{task_view};
 
 use crate::label::Label;
+use keyed::record::Record;
 
 // A task that has not ended.
 #[derive(Clone, Copy)]
@@ -17,6 +18,14 @@ pub struct Task {
     pub marked: bool,
     // Whether its body has come to pending before.
     pub pended: bool,
+}
+
+impl Record for Task {
+    ghost key = { λ task. task.id };
+
+    fn key(&self) -> u64 {
+        self.id
+    }
 }
 
 impl Task {
@@ -33,17 +42,23 @@ impl Task {
         }
     }
 
-    // Marks it aborted.
-    pub(crate) fn mark(&mut self)
-        ensures { task_view self.new ≡ marked (task_view self.old) }
+    // The task, marked aborted.
+    pub(crate) fn mark(self) -> Task
+        ensures { task_view result ≡ marked (task_view self) }
     {
-        self.marked = true;
+        Task {
+            marked: true,
+            ..self
+        }
     }
 
-    // Notes that its body has come to pending.
-    pub(crate) fn pend(&mut self)
-        ensures { task_view self.new ≡ pended (task_view self.old) }
+    // The task, whose body has come to pending.
+    pub(crate) fn pend(self) -> Task
+        ensures { task_view result ≡ pended (task_view self) }
     {
-        self.pended = true;
+        Task {
+            pended: true,
+            ..self
+        }
     }
 }

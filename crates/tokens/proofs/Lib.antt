@@ -1,4 +1,4 @@
-pub mod Digits
 pub mod Runs
 pub mod Spelling
 pub mod Strays
+pub mod Words

@@ -1,21 +1,10 @@
 -- A word at the front of some bytes, and the parts that the bytes fall into. Assumes nothing.
-use Rattle.std.proofs.Common.{◌≡◌, ℕ, suc, ◌+◌, ◌<◌, ◌≤◌, Bool, true, false, cond, eqb, List, [], ◌∷◌, length, get_or, take, drop, is_some, Some, None, Option, sym, refl, ap, ◌∙◌, arith}
-use Rattle.std.proofs.lemmas.List.{at_drop_more, at_drop_all}
+use Rattle.std.proofs.Common.{◌≡◌, ℕ, suc, ◌≤◌, Bool, true, false, cond, eqb, List, [], ◌∷◌, length, take, drop, is_some, unwrap_or, Some, None, Option, sym, refl, ap, ◌∙◌, one-add, arith}
+use Rattle.std.specs.List.{position, position_or_len}
 use Rattle.std.proofs.lemmas.Bool.{true≢false}
+use Rattle.std.proofs.lemmas.Bool.Decides.{nat_tests}
+use Rattle.std.proofs.lemmas.List.Recursion.{is_position_or_len}
 use Rattle.tokens.specs.Tokens.{Part, left, right, space, run, separator, ends_word, word_length, joined, set_before, parts}
-
--- the word ends at the place i of xs, goes on there, or goes on to the end
-pub word_stops : (i : ℕ) (xs : List ℕ) → i < length xs → ends_word (get_or xs i 0) ≡ true → word_length (drop i xs) ≡ 0
-unfolding word_length
-word_stops i xs h e = at_drop_more word_length xs i 0 h ∙ ap (λ (t : Bool). cond t 0 (suc (word_length (drop (i + 1) xs)))) e
-
-pub word_more : (i : ℕ) (xs : List ℕ) → i < length xs → ends_word (get_or xs i 0) ≡ false → word_length (drop i xs) ≡ suc (word_length (drop (i + 1) xs))
-unfolding word_length
-word_more i xs h e = at_drop_more word_length xs i 0 h ∙ ap (λ (t : Bool). cond t 0 (suc (word_length (drop (i + 1) xs)))) e
-
-pub word_end : (i : ℕ) (xs : List ℕ) → length xs ≤ i → word_length (drop i xs) ≡ 0
-unfolding word_length
-word_end i xs h = at_drop_all word_length xs i h
 
 -- a word is no longer than the bytes
 pub word_within : (xs : List ℕ) → word_length xs ≤ length xs
@@ -26,6 +15,15 @@ word_within (b ∷ bs) = by (ends_word b) (word_within bs)
     by : (t : Bool) → word_length bs ≤ length bs → cond t 0 (suc (word_length bs)) ≤ length (b ∷ bs)
     by true h = omega arith
     by false h = omega arith
+
+word_first : (xs : List ℕ) → word_length xs ≡ position_or_len ends_word xs
+unfolding word_length
+word_first xs = is_position_or_len word_length ends_word refl (λ b bs. ap (cond (ends_word b) 0) (sym (one-add (word_length bs)))) xs
+
+-- a word ends at the first byte that ends a word, or goes on to the end
+pub word_ends : (xs : List ℕ) (r : Option ℕ) → r ≡ position ends_word xs → unwrap_or r (length xs) ≡ word_length xs
+word_ends xs None is = let first = word_first xs in let within = word_within xs in grind (arith, nat_tests)
+word_ends xs (Some n) is = let first = word_first xs in grind (arith, nat_tests)
 
 -- no separator is a run
 abbrev is_run : Option Part → Bool
@@ -62,20 +60,9 @@ parts_run b [] e = ap (λ (o : Option Part). set_before o b []) e
 parts_run b (c ∷ bs) e =
     ap (λ (o : Option Part). set_before o b (parts (c ∷ bs))) e ∙ joins b c (word_length bs) bs (separator c) refl (parts_run c bs)
 
--- the parts of no bytes, of a word at the front, and of a separator at the front
-pub parts_none : (xs : List ℕ) → length xs ≡ 0 → parts xs ≡ []
-unfolding parts
-parts_none [] h = refl
-parts_none (b ∷ bs) h = absurd (omega arith)
-
-pub parts_word : (xs : List ℕ) → 0 < length xs → separator (get_or xs 0 0) ≡ None → parts xs ≡ run (take (word_length xs) xs) ∷ parts (drop (word_length xs) xs)
+-- the parts of bytes that a word begins
+pub parts_word : (b : ℕ) (bs : List ℕ) → separator b ≡ None → parts (b ∷ bs) ≡ run (take (word_length (b ∷ bs)) (b ∷ bs)) ∷ parts (drop (word_length (b ∷ bs)) (b ∷ bs))
 unfolding word_length
-parts_word [] h e = absurd (omega arith)
-parts_word (b ∷ bs) h e =
+parts_word b bs e =
     parts_run b bs e
     ∙ ap (λ (o : Option Part). run (take (cond (is_some o) 0 (suc (word_length bs))) (b ∷ bs)) ∷ parts (drop (cond (is_some o) 0 (suc (word_length bs))) (b ∷ bs))) (sym e)
-
-pub parts_separator : (xs : List ℕ) (p : Part) → 0 < length xs → separator (get_or xs 0 0) ≡ Some p → parts xs ≡ p ∷ parts (drop 1 xs)
-unfolding parts
-parts_separator [] p h e = absurd (omega arith)
-parts_separator (b ∷ bs) p h e = ap (λ (o : Option Part). set_before o b (parts bs)) e

@@ -1,4 +1,5 @@
 pub mod Numbers
+pub mod Parsed
 pub mod Tokens
 pub mod Cursor
 pub mod Expected

@@ -39,6 +39,7 @@ fn opener<'a>(piece: Piece<'a>) -> Result<Token<'a>, LineFault>
 }
 
 // The first token of some bytes and the bytes that follow it, or none where no bytes are left.
+#[tactic(auto, unfolding(crate::specs::Tokens::marks))]
 fn split_token<'a>(begun: bool, bytes: &'a [u8]) -> Result<Option<(Token<'a>, &'a [u8])>, LineFault>
     ensures { Split begun bytes.now result }
 {

@@ -7,6 +7,8 @@ ghost use Rattle.tokens.specs.Expected.{opens, first_word, first_number, first_n
 use crate::cursor::Tokens;
 use crate::token::Token;
 
+// Each asks for another kind of token. One method over a pattern would want a closure that takes the token apart, which is no
+// plainer; and each says of the cursor in a clause of its own that one token is taken.
 impl<'a> Tokens<'a> {
     // Whether an opening bracket comes next.
     pub fn opens(&mut self) -> bool

@@ -5,5 +5,4 @@ pub mod cursor;
 pub mod expected;
 pub mod number;
 mod piece;
-pub mod same;
 pub mod token;

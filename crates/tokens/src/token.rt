@@ -2,7 +2,7 @@
 
 // A bracket, a word or a number. A word and a number are parts of the line's own bytes: which type a number must fit
 // is known only where it is used, and a name may look like a number.
-#[derive(Clone, Copy)]
+#[derive(Clone, Copy, PartialEq, Eq)]
 pub enum Token<'a> {
     Open,
     Close,
@@ -11,7 +11,7 @@ pub enum Token<'a> {
 }
 
 // Why a line cannot be read; which line it is, the reader of the whole script knows.
-#[derive(Clone, Copy)]
+#[derive(Clone, Copy, PartialEq, Eq, Debug)]
 pub enum LineFault {
     NoForm,
 }

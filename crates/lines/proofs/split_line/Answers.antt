@@ -1,20 +1,17 @@
-use Rattle.std.proofs.Common.{ℕ, ◌≤◌, length, subst, arith}
-use Rattle.lines.proofs.Cuts.{text_of_unended, text_of_cut}
+use Rattle.std.proofs.Common.{eqb, rules, tests, subst}
+use Rattle.std.proofs.lemmas.Iterator.{YieldsList-from_slice}
+use Rattle.std.proofs.lemmas.Iterator.Search.{position_from_yields_List}
+use Rattle.lines.proofs.Cuts.{Cut, text_of_cut}
 use Rattle.lines.proofs.split_line.Goals as goal
 
-pub returns-then-length-bytes : goal.returns-then-length-bytes
-returns-then-length-bytes c =
+pub returns-in_err-end-clause-cases : goal.returns-in_err-end-clause-cases
+returns-in_err-end-clause-cases c =
     let bytes = c.args.bytes.now in
-    record {
-      cases = text_of_unended bytes (subst (λ (n : ℕ). length bytes ≤ n) c.line_length-length.ensures c.if-length-bytes.true);
-      shorter = tt;
-    }
+    let at = position_from_yields_List (λ b. eqb b 10) _ _ c.position.result c.position.ensures.ran (YieldsList-from_slice bytes cc) (λ x b q k. search (rules, tests)) in
+    rw c.from_residual.ensures (subst (Cut bytes) c.in_err-end.was (text_of_cut bytes _ at))
 
-pub returns : goal.returns
-returns c =
-    let front = c.split_at.ensures in
-    let behind = c.split_at-2.ensures in
-    record {
-      cases = text_of_cut _ _ _ _ _ c.line_length-length.ensures c.if-length-bytes.false front.front front.back behind.back;
-      shorter = omega (arith, front.back_len, behind.back_len);
-    }
+pub returns-clause-cases : goal.returns-clause-cases
+returns-clause-cases c =
+    let bytes = c.args.bytes.now in
+    let at = position_from_yields_List (λ b. eqb b 10) _ _ c.position.result c.position.ensures.ran (YieldsList-from_slice bytes cc) (λ x b q k. search (rules, tests)) in
+    subst (Cut bytes) c.in_ok-end.was (text_of_cut bytes _ at)

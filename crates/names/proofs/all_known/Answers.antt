@@ -1,20 +1,14 @@
-use Rattle.std.proofs.Common.{true, false, map, sym, ◌∙◌}
-use Rattle.std.proofs.lemmas.List.{at_drop_all}
+use Rattle.std.proofs.Common.{rules, tests}
+use Rattle.std.proofs.lemmas.Iterator.{YieldsList-from_slice}
+use Rattle.std.proofs.lemmas.Iterator.Search.{all_from_yields_List}
 use Rattle.forms.specs.Views.{act_of}
-use Rattle.grammar.specs.Reading.{all_known}
+use Rattle.grammar.specs.Reading.{is_known}
 use Rattle.names.specs.Names.{names_in}
-use Rattle.names.proofs.Naming.{all_known_turn, all_known_none}
+use Rattle.names.proofs.Naming.{all_known_all}
 use Rattle.names.proofs.all_known.Goals as goal
-
-pub returns-then-not-is_known : goal.returns-then-not-is_known
-returns-then-not-is_known c =
-    sym (c.loop-step.invariant ∙ all_known_turn (names_in c.args.tasks.now) c.args.steps.now c.loop-step.step-index _ false c.loop-step-test.true c.if-not-is_known.ensures)
-
-pub loop-step-preserved : goal.loop-step-preserved
-loop-step-preserved c =
-    c.loop-step.invariant ∙ all_known_turn (names_in c.args.tasks.now) c.args.steps.now c.loop-step.step-index _ true c.loop-step-test.true c.if-not-is_known.ensures
 
 pub returns : goal.returns
 returns c =
     let names = names_in c.args.tasks.now in
-    sym (c.loop-step.invariant ∙ at_drop_all (λ us. all_known names (map act_of us)) c.args.steps.now c.loop-step.step-index c.loop-step-test.false ∙ all_known_none names)
+    rw all_known_all
+    (all_from_yields_List (λ s. is_known names (act_of s)) _ _ _ c.all.ensures.ran (YieldsList-from_slice c.args.steps.now cc) (λ x b q k. search (rules, tests)))

@@ -1,7 +1,7 @@
-use Rattle.std.proofs.Common.{true, false, map, take, sym, ap, ◌∙◌}
+use Rattle.std.proofs.Common.{true, false, map, take, sym, ◌∙◌}
 use Rattle.std.proofs.lemmas.List.{at_drop_all}
 use Rattle.forms.specs.Views.{task_of}
-use Rattle.grammar.specs.Reading.{is_named, misnamed}
+use Rattle.grammar.specs.Reading.{misnamed}
 use Rattle.names.specs.Names.{names_in}
 use Rattle.names.proofs.Naming.{misnamed_start, misnamed_turn, misnamed_none}
 use Rattle.names.proofs.misnamed_line.Goals as goal
@@ -12,14 +12,12 @@ loop-i-init c = misnamed_start (names_in c.args.tasks.now) (map task_of c.args.t
 pub returns-then-not-is_named : goal.returns-then-not-is_named
 returns-then-not-is_named c =
     let tasks = c.args.tasks.now in
-    let tested = c.if-not-is_named.ensures ∙ ap (λ us. is_named (names_in tasks) (names_in us) (task_of c.index-tasks-i.result)) c.split_at.ensures.front in
-    sym (c.loop-i.invariant ∙ misnamed_turn (names_in tasks) tasks c.loop-i.i c.index-tasks-i.result false c.loop-i-test.true c.index-tasks-i.is tested)
+    sym (c.loop-i.invariant ∙ misnamed_turn (names_in tasks) tasks c.loop-i.i c.index-tasks-i.result false c.loop-i-test.true c.index-tasks-i.is c.if-not-is_named.ensures)
 
 pub loop-i-preserved : goal.loop-i-preserved
 loop-i-preserved c =
     let tasks = c.args.tasks.now in
-    let tested = c.if-not-is_named.ensures ∙ ap (λ us. is_named (names_in tasks) (names_in us) (task_of c.index-tasks-i.result)) c.split_at.ensures.front in
-    c.loop-i.invariant ∙ misnamed_turn (names_in tasks) tasks c.loop-i.i c.index-tasks-i.result true c.loop-i-test.true c.index-tasks-i.is tested
+    c.loop-i.invariant ∙ misnamed_turn (names_in tasks) tasks c.loop-i.i c.index-tasks-i.result true c.loop-i-test.true c.index-tasks-i.is c.if-not-is_named.ensures
 
 pub returns : goal.returns
 returns c =

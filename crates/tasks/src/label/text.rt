@@ -6,29 +6,29 @@ ghost use Rattle.tasks.specs.Label.{label_bytes};
 use super::{Label, MOST_LABEL};
 
 impl Label {
+    // The label of these bytes, which are few enough.
+    fn of(text: &[u8]) -> Label
+        requires { length text.now ≤ most_label }
+        ensures { label_bytes result ≡ text.now }
+    {
+        let len = text.len();
+        let mut bytes = [0; MOST_LABEL];
+        bytes[..len].copy_from_slice(text);
+        Label { bytes, len }
+    }
+
     // The label of these bytes, unless they are too many.
     pub fn new(text: &[u8]) -> Option<Label>
         ensures { MatchOption result (nat_le (length text.now) most_label ≡ false) (λ l. (nat_le (length text.now) most_label ≡ true) × (label_bytes l ≡ text.now)) }
     {
-        let len = text.len();
-        if len > MOST_LABEL {
-            return None;
-        }
-        let mut bytes = [0; MOST_LABEL];
-        bytes[..len].copy_from_slice(text);
-        Some(Label { bytes, len })
+        (text.len() <= MOST_LABEL).then(|| Label::of(text))
     }
 
     // The root's label.
     pub fn root() -> Label
         ensures { label_bytes result ≡ codes "root" }
     {
-        let mut bytes = [0; MOST_LABEL];
-        bytes[0] = b'r';
-        bytes[1] = b'o';
-        bytes[2] = b'o';
-        bytes[3] = b't';
-        Label { bytes, len: 4 }
+        Label::of(b"root")
     }
 
     // The label's bytes.

@@ -1,7 +1,9 @@
 -- The laws are those of a shuffled deck.
-use Rattle.arrange.specs.Deck.{deck}
-use Rattle.arrange.proofs.Decks.{same_from_shuffled}
-use Rattle.arrange.proofs.Often.{often_shuffled}
+use Rattle.std.proofs.Common.{◌≡◌, subst, sym, rules}
+use Rattle.std.proofs.lemmas.List.Sorted.{sum_by-IsPermutation}
+use Rattle.std.specs.List.Sorted.{IsPermutation}
+use Rattle.arrange.specs.Deck.{Deck, deck, shuffled}
+use Rattle.arrange.specs.Shuffle.{shuffled_same}
 use Rattle.arrange.proofs.Reach.{every_order}
 use Rattle.arrange.proofs.fisher_yates.shuffle.Goals as goal
 
@@ -9,6 +11,7 @@ pub returns : goal.returns
 returns g c =
     let d = g.D.Draws in
     let items = c.args.items.now in
-    let after = c.swap_down.new.items in
-    let same = same_from_shuffled d.rule (deck (d.value c.args.source.now) items) (deck (d.value c.swap_down.new.source) after) c.swap_down.ensures in
-    record { order = c.swap_down.ensures; same = same; often = often_shuffled items after same; reach = every_order }
+    let start = deck (d.value c.args.source.now) items in
+    let order : deck (d.value c.loop-i.source) c.loop-i.items ≡ shuffled d.rule start = search rules in
+    let same = subst (λ (x : Deck _ _). IsPermutation items x.items) (sym order) (shuffled_same d.rule start) in
+    record { order = order; same = same; often = λ test. sum_by-IsPermutation _ items _ same; reach = every_order }

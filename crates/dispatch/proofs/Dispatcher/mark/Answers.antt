@@ -1,29 +1,24 @@
--- The task that the id finds, if it is not marked: its mark spends one of those not marked.
+-- A mark spends one of the tasks that are not marked.
 use Rattle.std.proofs.Common.{refl, arith}
 use Rattle.std.proofs.lemmas.Bool.{not-true}
 use Rattle.tasks.specs.Task.{task_view}
 use Rattle.tasks.specs.Model as tasks
 use Rattle.dispatch.proofs.Unmarked.{unmarked_mark}
-use Rattle.dispatch.proofs.Marks.{marking_found}
 use Rattle.dispatch.proofs.Dispatcher.mark.Goals as goal
 
-pub mark_task-requires : goal.mark_task-requires
-mark_task-requires c =
-    let new = not-true _ c.if-not-task.true in
-    let spent = unmarked_mark c.args.id (tasks.view c.args.self.now.tasks) _ (task_view c.in-Some.task) c.in-Some.ensures.task new refl in
-    record {
-      new = new;
-      room = omega (arith, spent, c.requires.entries);
-      place = omega (arith, spent, c.requires.places);
-    }
+pub mark_task-requires-clause-room : goal.mark_task-requires-clause-room
+mark_task-requires-clause-room c =
+    let one_fewer = unmarked_mark c.args.id (tasks.view c.args.self.now.tasks) _ (task_view c.in-Some.task) c.in-Some.ensures.task (not-true _ c.if-not-task.true) refl in
+    record { entries_left = omega (arith, one_fewer, c.requires.fit.entries_left); places_left = omega (arith, one_fewer, c.requires.fit.places_left) }
 
-pub returns-then-not-task : goal.returns-then-not-task
-returns-then-not-task c =
+pub returns-then-not-task-clause-fit : goal.returns-then-not-task-clause-fit
+returns-then-not-task-clause-fit c =
     let told = c.mark_task.ensures in
-    let spent = unmarked_mark c.args.id (tasks.view c.args.self.now.tasks) _ (task_view c.in-Some.task) c.in-Some.ensures.task (not-true _ c.if-not-task.true) told.registry in
-    record {
-      state = λ m. marking_found c.args.id (task_view c.in-Some.task) _ _ c.in-Some.ensures.task (told.state m);
-      room = omega (arith, spent, told.left, c.requires.entries);
-      entries = omega (arith, spent, told.left);
-      places = omega (arith, spent, told.waiting);
-    }
+    let one_fewer = unmarked_mark c.args.id (tasks.view c.args.self.now.tasks) _ (task_view c.in-Some.task) c.in-Some.ensures.task (not-true _ c.if-not-task.true) told.registry in
+    record { entries_left = omega (arith, one_fewer, told.left, c.requires.fit.entries_left); places_left = omega (arith, one_fewer, told.waiting, c.requires.fit.places_left) }
+
+pub returns-then-not-task-clause-spent : goal.returns-then-not-task-clause-spent
+returns-then-not-task-clause-spent c =
+    let told = c.mark_task.ensures in
+    let one_fewer = unmarked_mark c.args.id (tasks.view c.args.self.now.tasks) _ (task_view c.in-Some.task) c.in-Some.ensures.task (not-true _ c.if-not-task.true) told.registry in
+    record { left = omega (arith, one_fewer, told.left); waiting = omega (arith, one_fewer, told.waiting) }

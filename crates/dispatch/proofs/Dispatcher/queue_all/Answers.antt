@@ -5,20 +5,12 @@ use Rattle.dispatch.proofs.Waking.{wakes_more, wakes_all}
 use Rattle.dispatch.proofs.Dispatcher.queue_all.Goals as goal
 
 pub loop-id-preserved : goal.loop-id-preserved
-loop-id-preserved c = (
-  λ k m. wakes_more c.args.cause c.args.ids.now c.loop-id.id-index _ _ _ c.loop-id-test.true (c.queue.ensures.state k m) ∙ c.loop-id.invariant.0 k m,
-  omega (arith, c.queue.ensures.left, c.loop-id.invariant.1),
-  omega (arith, c.queue.ensures.waiting, c.loop-id.invariant.2),
-  c.queue.ensures.registry ∙ c.loop-id.invariant.3,
-)
+loop-id-preserved c =
+    let spent = c.queue.ensures.spent in
+    let so_far = c.loop-id.invariant.1 in (
+      λ k m. wakes_more c.args.cause c.args.ids.now c.loop-id.id-index _ _ _ c.loop-id-test.true (c.queue.ensures.state k m) ∙ c.loop-id.invariant.0 k m,
+      record { left = omega (arith, spent.left, so_far.left); waiting = omega (arith, spent.waiting, so_far.waiting); registry = spent.registry ∙ so_far.registry },
+    )
 
-pub returns : goal.returns
-returns c =
-    let past = c.loop-id-test.false in
-    let within = c.loop-id.auto.id-index-end in
-    record {
-      state = λ k m. wakes_all c.args.cause c.args.ids.now c.loop-id.id-index (seen c.loop-id.self k m) past ∙ c.loop-id.invariant.0 k m;
-      left = omega (arith, c.loop-id.invariant.1, past, within);
-      waiting = omega (arith, c.loop-id.invariant.2, past, within);
-      registry = c.loop-id.invariant.3;
-    }
+pub returns-clause-state : goal.returns-clause-state
+returns-clause-state c k m = wakes_all c.args.cause c.args.ids.now c.loop-id.id-index (seen c.loop-id.self k m) c.loop-id-test.false ∙ c.loop-id.invariant.0 k m

@@ -2,7 +2,7 @@
 use Rattle.supervision.specs.Calls as supervision
 use Rattle.tasks.specs.Model as tasks
 use Rattle.state.specs.View.{view}
-use Rattle.model.specs.Model.{with_registry, with_tree}
+use Rattle.deterministic.specs.Model.{with_registry, with_tree}
 use Rattle.ending.proofs.Parts.{leaves}
 use Rattle.ending.proofs.steps.leave_registry.Goals as goal
 

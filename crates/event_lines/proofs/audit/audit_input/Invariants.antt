@@ -1,11 +1,12 @@
-use Rattle.std.proofs.Common.{◌≡◌, ◌+◌, ◌≤◌, length, vec_items}
+use Rattle.std.proofs.Common.{◌≡◌, ◌+◌, vec_items}
+use Rattle.std.specs.Iterator.Adapters.{enumerate_count, enumerate_source}
+use Rattle.lines.specs.Left.{bytes_left}
 use Rattle.event_lines.specs.Told.{audited, lines_of, outcome, prefixed}
 use Rattle.event_lines.proofs.audit.audit_input.Given as goal
 
-abbrev pub invariant-loop-line : goal.invariant-loop-line
-invariant-loop-line l =
-    (audited l.input ≡ prefixed (vec_items l.text) (outcome l.auditor.digest l.line_number (lines_of l.rest)))
-    × (l.line_number + length l.rest ≤ 1 + length l.input)
-
-abbrev pub decreases-loop-line : goal.decreases-loop-line
-decreases-loop-line l = length l.rest
+abbrev pub invariant-loop-i : goal.invariant-loop-i
+invariant-loop-i l =
+    record {
+      turns : (goal.iterator-loop-i).can_next l.i-iterator × (goal.iterator-loop-i).is_finite l.i-iterator;
+      told : audited l.input ≡ prefixed (vec_items l.text) (outcome l.auditor.digest (enumerate_count l.i-iterator + 1) (lines_of (bytes_left (enumerate_source l.i-iterator))));
+    }

@@ -1,13 +1,6 @@
-use Rattle.std.proofs.Common.{None, sym, refl}
-use Rattle.keyed.proofs.Finds.{put_found, change_missing}
-use Rattle.nodes.specs.Node.{serial_of, with_owner}
+use Rattle.std.proofs.Common.{rules, None}
+use Rattle.nodes.specs.Node.{with_owner}
 use Rattle.nodes.proofs.Nodes.release.Goals as goal
 
-pub returns-in-Some : goal.returns-in-Some
-returns-in-Some c = record {
-  nodes = put_found serial_of (with_owner None) 0 _ _ _ _ c.in-Some.node _ c.args.self.now.order (sym c.in-Some.ensures) refl refl c.put.ensures.nodes;
-  next = c.put.ensures.next;
-}
-
-pub returns-in_default : goal.returns-in_default
-returns-in_default c = record { nodes = sym (change_missing serial_of (with_owner None) _ _ (sym c.in_default.ensures)); next = refl }
+pub returns-clause-nodes : goal.returns-clause-nodes
+returns-clause-nodes c = c.change.ensures.rows (with_owner None) (λ x y k. search rules)

@@ -1,20 +1,16 @@
-use Rattle.std.proofs.Common.{◌++◌, map, vec_items, codes, ap, ◌∙◌}
-use Rattle.forms.specs.Views.{act_of, acts_of}
-use Rattle.grammar.specs.Spelled.{ending, spelled_acts}
-use Rattle.script_print.proofs.Growing.{grown_by, grown_then}
+use Rattle.std.proofs.Common.{◌++◌, vec_items, ap, ◌∙◌, append_assoc}
+use Rattle.forms.specs.Views.{task_of}
+use Rattle.grammar.specs.Spelled.{ending, spelled_task}
+use Rattle.script_print.proofs.Growing.{grown_last, printed_turn, spelled_acts_turn, acts_printed, spaced}
 use Rattle.script_print.proofs.print.put_task.Goals as goal
+
+pub loop-step-preserved : goal.loop-step-preserved
+loop-step-preserved c =
+    printed_turn _ (vec_items c.loop-step.out) (vec_items c.put_step.new.out) _ _ _ c.loop-step.invariant
+    (spelled_acts_turn c.deref-step-items.result.now c.loop-step.step-index _ c.loop-step-test.true)
+    (spaced _ _ _ _ c.in_ok-extend_from_slice-3.ensures.items c.in_ok-put_step.ensures)
 
 pub returns : goal.returns
 returns c =
-    let r = c.extend_from_slice-3.result in
-    let task = c.args.task.now in
-    let out = vec_items c.args.out.now in
-    let led = vec_items c.extend_from_slice.new.self in
-    let named = vec_items c.extend_from_slice-2.new.self in
-    let stepped = vec_items c.put_steps.new.out in
-    let ended = vec_items c.extend_from_slice-3.new.self in
-    grown_then r out led ended (codes "(task ") _ c.in_ok-extend_from_slice.ensures.items
-    (grown_then r led named ended task.name.now _ c.in_ok-extend_from_slice-2.ensures.items
-    (grown_then r named stepped ended (spelled_acts (acts_of task)) _
-    (c.in_ok-put_steps.ensures ∙ ap (λ ss. named ++ spelled_acts (map act_of ss)) c.as_slice.ensures.value)
-    (grown_by r stepped ended ending c.extend_from_slice-3.ensures.items)))
+    let acts = acts_printed _ _ c.deref-step-items.result.now c.loop-step.step-index c.loop-step-test.false c.loop-step.invariant in
+    grown_last c.extend_from_slice-3.result (vec_items c.args.out.now) (vec_items c.loop-step.out) _ ending (spelled_task (task_of c.args.task.now)) (ap (λ bs. bs ++ ending) acts ∙ simp append_assoc) c.extend_from_slice-3.ensures.items

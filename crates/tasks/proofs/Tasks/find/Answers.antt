@@ -1,20 +1,15 @@
--- The task at the place is the one that the id finds.
-use Rattle.std.proofs.Common.{vec_items, sym}
-use Rattle.keyed.proofs.Finds.{find_key}
-use Rattle.keyed.proofs.Orders.{find_within}
-use Rattle.keyed.proofs.Places.{find_none}
-use Rattle.model.specs.Model.{id_of}
-use Rattle.tasks.specs.Task.{task_view, tasks_view}
-use Rattle.tasks.proofs.Views.{view_read}
+-- The task that the id finds is the registered one, and its id was given out.
+use Rattle.std.proofs.Common.{refl, sym, ap, ◌∙◌}
+use Rattle.std.specs.Option.{option_map}
+use Rattle.keyed.specs.Table.{rows}
+use Rattle.keyed.proofs.Tables.{found_below}
+use Rattle.keyed.proofs.Views.{find_view}
+use Rattle.deterministic.specs.Model.{id_of}
+use Rattle.tasks.specs.Task.{task_view}
 use Rattle.tasks.proofs.Tasks.find.Goals as goal
 
-pub returns-in-Some : goal.returns-in-Some
-returns-in-Some c =
-    let found = view_read task_view id_of _ _ _ _ _ c.args.self.now.order c.args.self.now.tasks.ok.0 c.in-Some.ensures.0 c.in-Some.ensures.1 _ c.index.ensures in
-    record {
-      task = sym found;
-      given = (find_key id_of _ _ _ found, (find_within id_of _ _ _ _ _ c.args.self.now.order found).1);
-    }
+pub returns-clause-task : goal.returns-clause-task
+returns-clause-task c = ap (option_map task_view) c.find.ensures ∙ sym (find_view task_view (λ t. t.id) id_of (λ _. refl) c.args.id (rows c.args.self.now.tasks))
 
-pub returns-in-None : goal.returns-in-None
-returns-in-None c = record { task = sym (find_none id_of c.args.id (tasks_view (vec_items c.args.self.now.tasks)) c.in-None.ensures); given = tt }
+pub returns-clause-given : goal.returns-clause-given
+returns-clause-given c = found_below (λ t. t.id) _ c.args.id (rows c.args.self.now.tasks) c.find.result c.args.self.now.tasks.order c.find.ensures

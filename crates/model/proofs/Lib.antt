@@ -1,4 +1,0 @@
-pub mod Choices
-pub mod Doings
-pub mod Kept
-pub mod Derive

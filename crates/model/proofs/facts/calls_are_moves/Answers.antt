@@ -1,5 +1,0 @@
-use Rattle.model.proofs.facts.calls_are_moves.Goals as goal
-use Rattle.model.proofs.Doings.{apply_moves}
-
-pub returns : goal.returns
-returns c = apply_moves
