@@ -21,6 +21,7 @@ fn accepted(heap: Global, bytes: &[u8]) -> Result<u32, ReadFault> {
     Ok(count)
 }
 
+// Reading the input is two calls of the library, as in the other programs: one function for all would want a crate of its own.
 fn main(rt: HostRuntime) -> io::Result<()> {
     let mut bytes = Vec::new(rt.alloc());
     rt.stdin().read_to_end(&mut bytes)?;

@@ -93,6 +93,7 @@ fn tell_cases(rt: &HostRuntime, bytes: &[u8]) -> io::Result<()> {
     case.tell(rt)
 }
 
+// Reading the input is two calls of the library, as in the other programs: one function for all would want a crate of its own.
 fn main(rt: HostRuntime) -> io::Result<()> {
     let mut bytes = Vec::new(rt.alloc());
     rt.stdin().read_to_end(&mut bytes)?;

@@ -7,6 +7,7 @@ ghost use Rattle.supervision.specs.Calls.{view, given_tasks, closed_all, left, K
 
 use crate::Tree;
 
+// `close_all`, `leave` and `spend` differ in what goes before the settling, which each names: one function over a step is no plainer.
 impl Tree {
     // Closes every context that the task holds.
     pub fn close_all(&mut self, task: u64)
