@@ -5,8 +5,8 @@ ghost use Rattle.std.specs.Prelude.{◌≡◌, is_some, Some, None};
 ghost use Rattle.std.specs.Option.{option_map};
 ghost use Rattle.oneshot.specs.Cell.{held, sent, send_answer};
 
-// The text is one for every content: a stop value, a first fault. It is a type of its own, since what says
-// that the first value stays is the type: std's OnceCell has these calls too, but no clause knows what a cell contains.
+// The text is one for every content: a stop value, a bare completion, a first fault. It is a type of its own, since what
+// says that the first value stays is the type: std's OnceCell has these calls too, but no clause knows what a cell contains.
 #[derive(Drop)]
 pub struct OneShot<T> {
     value: Option<T>,

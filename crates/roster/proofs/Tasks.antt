@@ -104,3 +104,8 @@ some_open_without task (x ∷ xs) none =
       | true ↦ rest
       | false ↦ rw p.0 rest
     ]
+
+-- a new row holds no signal
+pub some_open_entered : (task : ℕ) (xs : List Row) → some_open (xs ++ fresh task ∷ []) ≡ some_open xs
+some_open_entered task [] = refl
+some_open_entered task (x ∷ xs) = ap (λ b. is_open x || b) (some_open_entered task xs)

@@ -1,7 +1,11 @@
 // What tasks and the executor do with the stopper.
-ghost use Rattle.std.specs.Prelude.{◌≡◌, ◌+◌, ◌^◌, ◌<◌, ◌≤◌, not, ◌&&◌, [], length, IfOk, if◌then◌else◌};
+ghost use Rattle.std.specs.Prelude.{◌≡◌, ◌+◌, ◌^◌, ◌<◌, ◌≤◌, not, ◌&&◌, [], length, is_some, IfOk, if◌then◌else◌, Some};
+ghost use Rattle.oneshot.specs.Cell.{held as sent_value};
+ghost use Rattle.reserved.specs.Held.{held};
 ghost use Rattle.roster.specs.Row.{most_tasks, has_asked};
 ghost use Rattle.roster.specs.Model.{called, Ascending};
+ghost use Rattle.roster.specs.Model.{view as roll_of};
+ghost use Rattle.signal.specs.Complete.{complete_with};
 ghost use Rattle.signal.specs.Model.{view, woken_by, unstopped, complete, entered, given, signal_answer, awaiting, stopped_by, stop_wakes, completed_answer, asking, let_go, ended};
 ghost use Rattle.signal.specs.Laws.{Keeps, StopWakes};
 ghost use Rattle.signal.specs.Calls.{Makes, Settles};
@@ -9,9 +13,29 @@ ghost use Rattle.signal.specs.Calls.{Makes, Settles};
 use crate::{Refusal, Stopper};
 use oneshot::OneShot;
 use reserved::Reserved;
-use roster::Roster;
 use roster::row::{Row, Signal};
+use roster::{MOST_TASKS, Roster};
 use std::alloc::{AllocError, Global};
+
+// Sends completion if it comes now: there was a stop, no open signal is held, and it has not come before. Then it lists
+// those who asked for it, and else nobody. It takes the parts of a stopper, which owes its fact only when a call is over.
+fn settle(
+    value: &OneShot<i32>,
+    roster: &Roster,
+    completion: &mut OneShot<()>,
+    woken: &mut Reserved<u64, MOST_TASKS>,
+)
+    ensures completion { sent_value completion.new ≡ (if complete_with (sent_value value.now) (roll_of roster.now).rows then Some tt else sent_value completion.old) }
+    ensures woken { held woken.new ≡ (if complete_with (sent_value value.now) (roll_of roster.now).rows && not (is_some (sent_value completion.old)) then called has_asked (roll_of roster.now).rows else []) }
+    ensures ascending { Ascending (held woken.new) }
+{
+    if !completion.is_sent() && value.is_sent() && !roster.some_open() {
+        let _ = completion.send(());
+        roster.list(Row::has_asked, woken);
+    } else {
+        woken.clear();
+    }
+}
 
 impl Stopper {
     // Running, with no task yet and the memory for MOST_TASKS of them.
@@ -22,6 +46,7 @@ impl Stopper {
         let roster = Roster::new(heap)?;
         Ok(Stopper {
             value: OneShot::new(),
+            completion: OneShot::new(),
             roster,
             woken,
         })
@@ -41,7 +66,7 @@ impl Stopper {
     fn is_complete(&self) -> bool
         ensures { result ≡ complete (view self.now) }
     {
-        self.value.is_sent() && !self.roster.some_open()
+        self.completion.is_sent()
     }
 
     // Gives the task a signal, unless it holds one: open before the stop, closed after it.
@@ -80,6 +105,12 @@ impl Stopper {
         ensures wakes { StopWakes (view self.old) (woken_by self.new) }
     {
         if self.value.send(value).is_ok() {
+            settle(
+                &self.value,
+                &self.roster,
+                &mut self.completion,
+                &mut self.woken,
+            );
             self.roster.list(Row::is_waiting, &mut self.woken);
         } else {
             self.woken.clear();
@@ -101,35 +132,30 @@ impl Stopper {
         Ok(complete)
     }
 
-    // Lists whom completion wakes, if it comes now: those who asked for it, if all was not complete before.
-    fn settle(&mut self, was_complete: bool)
-        ensures state { view self.new ≡ view self.old }
-        ensures woken { woken_by self.new ≡ (if complete (view self.old) && not was_complete then called has_asked (view self.old).roll.rows else []) }
-        ensures ascending { Ascending (woken_by self.new) }
-    {
-        if self.is_complete() && !was_complete {
-            self.roster.list(Row::has_asked, &mut self.woken);
-        } else {
-            self.woken.clear();
-        }
-    }
-
     // Ends the task's signal, if it holds one. With the last open signal after the stop completion comes.
     pub fn let_go(&mut self, task: u64)
         ensures { Settles (let_go task) self.old self.new }
     {
-        let was_complete = self.is_complete();
         self.roster.turn(task, Row::let_go);
-        self.settle(was_complete);
+        settle(
+            &self.value,
+            &self.roster,
+            &mut self.completion,
+            &mut self.woken,
+        );
     }
 
     // The task ends: its signal goes, and it is woken no more. With the last open signal after the stop completion comes.
     pub fn end(&mut self, task: u64)
         ensures { Settles (ended task) self.old self.new }
     {
-        let was_complete = self.is_complete();
         self.roster.strike(task);
-        self.settle(was_complete);
+        settle(
+            &self.value,
+            &self.roster,
+            &mut self.completion,
+            &mut self.woken,
+        );
     }
 
     // Whom the last stop, letting go or end of a task woke, by ascending id.
