@@ -1,3 +1,4 @@
+pub mod Digits
 pub mod Runs
 pub mod Spelling
 pub mod Strays
