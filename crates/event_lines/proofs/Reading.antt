@@ -1,6 +1,5 @@
 -- A line is read as an event exactly if its tokens say that event.
-use Rattle.std.proofs.Common.{◌≡◌, ℕ, Bool, true, false, cond, List, [], ◌∷◌, ℤ, is_ok, Some, None, Ok, Err, codes, Option, Result, sym, refl, ap, ◌∙◌, subst, inl, inr}
-use mathlib.Core.Bool.{false≢true}
+use Rattle.std.proofs.Common.{◌≡◌, ℕ, Bool, true, false, cond, List, [], ◌∷◌, ℤ, Some, None, Ok, Err, codes, Option, Result, sym, refl, ap, ◌∙◌, subst, inl, inr}
 use Rattle.std.specs.Str.{bytes_eq}
 use Rattle.std.proofs.lemmas.Slice.Eq.{bytes_eq-Decides}
 use Rattle.auditor.specs.Events.{Event, process_task, stop, stopped}
@@ -9,7 +8,7 @@ use Rattle.tokens.specs.Expected.{opens, first_word, first_number, first_name, c
 use Rattle.tokens.specs.Numbers.{natural_of, integer_of}
 use Rattle.tokens.specs.Tokens.{Mark, opening, closing, word, number, tokens_of}
 use Rattle.event_lines.specs.declared.event.Trouble.{Trouble}
-use Rattle.event_lines.specs.declared.event.Trouble.TheVariants.{NoEvent, NoId, NoValue}
+use Rattle.event_lines.specs.declared.event.Trouble.TheVariants.{NoEvent}
 use Rattle.event_lines.specs.Lines.{and_then, asked, closed_as, event_by, event_in, event_named, labelled, polled}
 use Rattle.event_lines.specs.Said.{Exact, Labels, Says}
 use Rattle.event_lines.proofs.Ahead.{opens_is, word_is, number_is, name_is, closes_is}

@@ -9,9 +9,12 @@ use Rattle.event_lines.specs.declared.event.Trouble.{Trouble}
 use Rattle.event_lines.specs.Lines.{event_of}
 use Rattle.event_lines.specs.Told.{Outcome, digest_by, last_line, lines_of, outcome, prefixed, stop_at, told_by, trouble_by}
 
--- a digest and two spaces, a line and its end, pushed one after another, are what is told of the line
-pub pushed : (text hex spaces line with_hex with_line all : List ℕ) → with_hex ≡ text ++ (hex ++ spaces) → with_line ≡ with_hex ++ line → all ≡ with_line ++ 10 ∷ [] → all ≡ text ++ (hex ++ (spaces ++ (line ++ 10 ∷ [])))
-pushed text hex spaces line with_hex with_line all first second third = third ∙ ap (λ (t : List ℕ). t ++ 10 ∷ []) (second ∙ ap (λ (t : List ℕ). t ++ line) first) ∙ simp append_assoc
+-- four pieces pushed one after another are pushed as one
+pub pushed_four : (t a b c d t1 t2 t3 t4 : List ℕ) → t1 ≡ t ++ a → t2 ≡ t1 ++ b → t3 ≡ t2 ++ c → t4 ≡ t3 ++ d → t4 ≡ t ++ (a ++ (b ++ (c ++ d)))
+pushed_four t a b c d t1 t2 t3 t4 e1 e2 e3 e4 =
+    e4
+    ∙ ap (λ (x : List ℕ). x ++ d) (e3 ∙ ap (λ (x : List ℕ). x ++ c) (e2 ∙ ap (λ (x : List ℕ). x ++ b) e1))
+    ∙ simp append_assoc
 
 -- a line that LF ends comes first among the lines
 pub lines_of_line : (bs line rest : List ℕ) → text_of bs ≡ with_line line (text_of rest) → lines_of bs ≡ line ∷ lines_of rest

@@ -7,6 +7,7 @@ ghost use Rattle.event_lines.specs.Told.{audited, digest_by, lines_of, told_by, 
 ghost use Rattle.event_lines.specs.Views.{meant};
 
 use crate::event::{Event, Misread, Trouble};
+use crate::hex::hex;
 use crate::reader::read_event;
 use auditor::{Auditor, Digest};
 use lines::{Lines, Unended};
@@ -34,9 +35,8 @@ fn tell(auditor: &mut Auditor, event: Event<'_>)
 fn push_line(text: &mut Vec<u8>, digest: Digest, line: &[u8]) -> Result<(), AllocError>
     ensures { OnOk result (text.new.items ≡ text.old.items ++ told_line digest line.now) }
 {
-    let [a, b, c, d] = digest;
-    let told = format!(in *text.allocator(); "{a:02x}{b:02x}{c:02x}{d:02x}  ")?;
-    text.extend_from_slice(told.as_bytes())?;
+    text.extend_from_slice(&hex(digest))?;
+    text.extend_from_slice(b"  ")?;
     text.extend_from_slice(line)?;
     text.push(b'\n')?;
     Ok(())

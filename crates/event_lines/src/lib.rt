@@ -3,5 +3,6 @@
 
 pub mod audit;
 pub mod event;
+mod hex;
 pub mod reader;
 pub mod wrong;
