@@ -1,6 +1,5 @@
 // The totals of a run, read off its ledger.
-ghost use Rattle.std.specs.Prelude.{◌≡◌, ◌||◌};
-ghost use Rattle.ledger.specs.Kinds.{is_poll, is_skip, is_registration, is_wake, is_ring};
+ghost use Rattle.std.specs.Prelude.{◌≡◌};
 ghost use Rattle.ledger.specs.Totals.{totals_of};
 
 use entry::Entry;
@@ -15,36 +14,25 @@ pub struct Totals {
     pub woken: u64,
 }
 
-// A poll or a skip deals an id.
-fn deals(entry: &Entry) -> bool
-    ensures { result ≡ (is_poll entry.now || is_skip entry.now) }
-{
-    matches!(entry, Entry::Poll(_, _) | Entry::Skip(_))
-}
-
-// A registration registers a task.
-fn registers(entry: &Entry) -> bool
-    ensures { result ≡ is_registration entry.now }
-{
-    matches!(entry, Entry::Reg(_))
-}
-
-// A wake or a ring queues an id.
-fn wakes(entry: &Entry) -> bool
-    ensures { result ≡ (is_wake entry.now || is_ring entry.now) }
-{
-    matches!(entry, Entry::Wake(_, _) | Entry::Ring(_, _))
-}
-
 impl Totals {
-    // The totals of these entries: how many of each kind there are.
+    // The totals of these entries, counted in one pass: a poll or a skip deals an id, a registration registers a task, and a
+    // wake or a ring queues an id.
     pub fn of(entries: &[Entry]) -> Totals
         ensures value { result ≡ totals_of entries.now }
     {
-        Totals {
-            dealt: entries.iter().filter(|entry| deals(entry)).count() as u64,
-            registered: entries.iter().filter(|entry| registers(entry)).count() as u64,
-            woken: entries.iter().filter(|entry| wakes(entry)).count() as u64,
+        let mut totals = Totals {
+            dealt: 0,
+            registered: 0,
+            woken: 0,
+        };
+        for entry in entries {
+            match entry {
+                Entry::Poll(_, _) | Entry::Skip(_) => totals.dealt += 1,
+                Entry::Reg(_) => totals.registered += 1,
+                Entry::Wake(_, _) | Entry::Ring(_, _) => totals.woken += 1,
+                _ => {}
+            }
         }
+        totals
     }
 }
