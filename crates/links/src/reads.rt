@@ -1,13 +1,12 @@
 // What is asked of the links.
 ghost use Rattle.std.specs.Prelude.{◌≡◌, ◌+◌, ◌≤◌, ◌++◌, length, filter};
-ghost use Rattle.reserved.specs.Held.{held};
 ghost use Rattle.nodes.specs.Living.{living};
 ghost use Rattle.links.specs.Link.{from, survives, children};
 ghost use Rattle.links.specs.Linked.{linked};
 
 use crate::{Link, Links};
 use nodes::Nodes;
-use reserved::Reserved;
+use reserved::buffer::Buffer;
 
 // A parent and the nodes are asked of together, here and in the sweep; a struct of both would only borrow them, and is no plainer.
 impl Link {
@@ -50,9 +49,10 @@ impl Links {
     }
 
     // Puts the children that the parent is linked to at the end of `waiting`, in linking order.
-    pub fn gather<const N: usize>(&self, parent: u64, waiting: &mut Reserved<u64, N>)
-        requires { length (held waiting.old) + length (linked self.now) ≤ N }
-        ensures { held waiting.new ≡ held waiting.old ++ children parent (linked self.now) }
+    pub fn gather<B: Buffer<u64>>(&self, parent: u64, waiting: &mut B)
+        requires { length (B.items waiting.old) + length (linked self.now) ≤ B.capacity waiting.old }
+        ensures children { B.items waiting.new ≡ B.items waiting.old ++ children parent (linked self.now) }
+        ensures capacity { B.capacity waiting.new ≡ B.capacity waiting.old }
     {
         for link in self.list.as_slice() {
             if link.parent == parent {

@@ -3,6 +3,7 @@
 
 ghost use Rattle.std.specs.Prelude.{◌≤◌, vec_len, vec_capacity};
 
+pub mod buffer;
 mod calls;
 
 #[derive(Drop)]

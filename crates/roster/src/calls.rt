@@ -1,18 +1,17 @@
 // What the stopper does with its roster.
 ghost use Rattle.std.specs.Prelude.{◌≡◌, ℕ, ◌+◌, ◌^◌, ◌<◌, ◌≤◌, Bool, length, IfOk};
 ghost use Rattle.std.specs.Fn.{FnReturnsAt};
-ghost use Rattle.reserved.specs.Held.{held};
 ghost use Rattle.reserved.specs.Closures.{Computes};
 ghost use Rattle.roster.specs.declared.row.Row.{Row as Entry};
 ghost use Rattle.roster.specs.Row.{most_tasks};
 ghost use Rattle.roster.specs.Model.{view, nobody, entered, turned, departed, holder, some_open, called, Ascending};
 ghost use Rattle.roster.specs.Closures.{KeepsTask};
 
+use crate::Roster;
 use crate::row::Row;
-use crate::{MOST_TASKS, Roster};
 use keyed::record::Record;
 use keyed::table::Table;
-use reserved::Reserved;
+use reserved::buffer::Buffer;
 use std::alloc::{AllocError, Global};
 
 impl Roster {
@@ -48,11 +47,14 @@ impl Roster {
         self.rows.as_slice().iter().any(Row::is_open)
     }
 
-    // Lists the tasks whose rows pass the test, in place of what the list held.
-    pub fn list<P: Fn(&Row) -> bool>(&self, passes: P, ids: &mut Reserved<u64, MOST_TASKS>)
-        requires { P.IsAlwaysCallable passes }
-        ensures items { (test : Entry → Bool) → Computes (FnReturnsAt P.Fn passes) test → held ids.new ≡ called test (view self.now).rows }
-        ensures ascending { Ascending (held ids.new) }
+    // Lists the tasks whose rows pass the test, in place of what the buffer held, which has the capacity for all of them.
+    pub fn list<P: Fn(&Row) -> bool, B: Buffer<u64>>(&self, passes: P, ids: &mut B)
+        requires callable { P.IsAlwaysCallable passes }
+        requires capacity { most_tasks ≤ B.capacity ids.old }
+        ensures items { (test : Entry → Bool) → Computes (FnReturnsAt P.Fn passes) test → B.items ids.new ≡ called test (view self.now).rows }
+        ensures capacity { B.capacity ids.new ≡ B.capacity ids.old }
+        ensures ascending { Ascending (B.items ids.new) }
+        ensures few { length (B.items ids.new) ≤ most_tasks }
     {
         ids.clear();
         for row in self.rows.as_slice() {

@@ -4,6 +4,9 @@
 #[cfg(test)]
 mod tests {
     use oneshot::OneShot;
+    use reserved::Reserved;
+    use roster::row::{Row, Signal};
+    use roster::{MOST_TASKS, Roster};
     use signal::{Refusal, Stopper};
     use std::alloc::{AllocError, Global};
     use std::test::Fail;
@@ -82,6 +85,42 @@ mod tests {
         stopper.end(1);
         assert_eq!(rt; stopper.woken(), [2].as_slice());
         assert_eq!(rt; stopper.completed(3), Ok(true));
+        Ok(())
+    }
+
+    // A roster of the tasks 1, 2 and 3: the first two hold signals, and the last two asked for completion.
+    fn roster_of_three(heap: Global) -> Result<Roster, AllocError> {
+        let mut roster = Roster::new(heap)?;
+        roster.register(1);
+        roster.register(2);
+        roster.register(3);
+        roster.turn(1, |row| row.take(Signal::Open));
+        roster.turn(2, |row| row.take(Signal::Closed));
+        roster.turn(2, Row::ask);
+        roster.turn(3, Row::ask);
+        Ok(roster)
+    }
+
+    #[test]
+    fn a_roster_lists_into_a_vector_of_the_least_capacity(rt: HostRuntime) -> Result<(), Fail> {
+        let roster = roster_of_three(rt.alloc())?;
+        let mut ids = Vec::with_capacity(rt.alloc(), MOST_TASKS)?;
+        roster.list(Row::holds, &mut ids);
+        assert_eq!(rt; ids.as_slice(), [1, 2].as_slice());
+        roster.list(Row::has_asked, &mut ids);
+        assert_eq!(rt; ids.as_slice(), [2, 3].as_slice());
+        assert_eq!(rt; ids.capacity(), MOST_TASKS);
+        Ok(())
+    }
+
+    #[test]
+    fn a_roster_lists_into_a_reserved_list(rt: HostRuntime) -> Result<(), Fail> {
+        let roster = roster_of_three(rt.alloc())?;
+        let mut ids = Reserved::<u64, MOST_TASKS>::new(rt.alloc())?;
+        roster.list(Row::holds, &mut ids);
+        assert_eq!(rt; ids.as_slice(), [1, 2].as_slice());
+        roster.list(Row::is_open, &mut ids);
+        assert_eq!(rt; ids.as_slice(), [1].as_slice());
         Ok(())
     }
 }

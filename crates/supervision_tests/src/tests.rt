@@ -1,4 +1,10 @@
 // What a user of the supervision tree sees.
+ghost use Rattle.std.specs.Prelude.{◌≡◌, length, IfOk};
+ghost use Rattle.links.specs.Linked.{linked};
+
+use links::Links;
+use reserved::Reserved;
+use std::alloc::{AllocError, Global};
 use std::test::Fail;
 use supervision::Tree;
 
@@ -97,5 +103,37 @@ fn a_node_dies_with_its_last_context_task_and_child(rt: HostRuntime) -> Result<(
     tree.leave(1);
     assert_eq!(rt; tree.len(), 1);
     assert_eq!(rt; tree.node_of(1), None);
+    Ok(())
+}
+
+// Links from 1 to 2, from 3 to 4 and from 1 to 5.
+fn three_links(heap: Global) -> Result<Links, AllocError>
+    ensures { IfOk result (λ l. length (linked l) ≡ 3) }
+{
+    let mut links = Links::new(heap)?;
+    links.add(1, 2);
+    links.add(3, 4);
+    links.add(1, 5);
+    Ok(links)
+}
+
+#[test]
+fn children_are_gathered_into_a_vector_of_the_least_capacity(rt: HostRuntime) -> Result<(), Fail> {
+    let links = three_links(rt.alloc())?;
+    let mut waiting = Vec::with_capacity(rt.alloc(), 4)?;
+    waiting.push_reserved(7);
+    links.gather(1, &mut waiting);
+    assert_eq!(rt; waiting.as_slice(), [7, 2, 5].as_slice());
+    assert_eq!(rt; waiting.capacity(), 4);
+    Ok(())
+}
+
+#[test]
+fn children_are_gathered_into_a_reserved_list(rt: HostRuntime) -> Result<(), Fail> {
+    let links = three_links(rt.alloc())?;
+    let mut waiting = Reserved::<u64, 4>::new(rt.alloc())?;
+    waiting.push(7);
+    links.gather(3, &mut waiting);
+    assert_eq!(rt; waiting.as_slice(), [7, 4].as_slice());
     Ok(())
 }
