@@ -4,7 +4,7 @@ use Rattle.keyed.specs.Keyed.{find, change, without}
 use Rattle.keyed.specs.Choices.{given}
 use Rattle.deterministic.specs.Model.{Task, id_of, marked, pended, new_task}
 use Rattle.deterministic.specs.Bounds.{unmarked}
-use Rattle.deterministic.proofs.Countings.{counted, counted_most, counted_push, counted_change_same, counted_without, counted_ended}
+use Rattle.deterministic.proofs.Countings.{counted, Ends, ends_gains_none, counted_most, counted_push, counted_change, counted_change_same, counted_without, counted_ended}
 
 -- the task is not marked
 abbrev runs : Task → Bool
@@ -32,6 +32,12 @@ unmarked_pended i ts = unmarked_counted (change id_of pended i ts) ∙ counted_c
 
 pub unmarked_without : (i : ℕ) (ts : List Task) → unmarked (without id_of i ts) ≤ unmarked ts
 unmarked_without i ts = omega (arith, unmarked_counted ts, unmarked_counted (without id_of i ts), counted_without runs id_of i ts)
+
+-- a mark leaves no more of them
+pub unmarked_change : (i : ℕ) (ts : List Task) → unmarked (change id_of marked i ts) ≤ unmarked ts
+unmarked_change i ts =
+    let marks : Ends runs marked = λ _. refl in
+    omega (arith, unmarked_counted ts, unmarked_counted (change id_of marked i ts), counted_change runs id_of marked (ends_gains_none runs marked marks) i ts)
 
 -- a task that was not marked and is makes one fewer
 pub unmarked_one_fewer : (i : ℕ) (ts : List Task) (t : Task) → find id_of i ts ≡ Some t → t.marked ≡ false → unmarked (change id_of marked i ts) + 1 ≤ unmarked ts

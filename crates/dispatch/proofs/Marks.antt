@@ -1,7 +1,7 @@
 -- Tasks that are marked, one and one after another.
 use Rattle.std.proofs.Common.{◌≡◌, ℕ, ◌+◌, ◌-◌, ◌<◌, ◌≤◌, Bool, true, false, cond, not, List, [], ◌∷◌, length, get_or, drop, sym, refl, ap, ◌∙◌}
 use Rattle.std.proofs.lemmas.List.{at_drop_more, at_drop_all}
-use Rattle.std.proofs.lemmas.Bool.{ne_eqb}
+use Rattle.std.proofs.lemmas.Bool.{ne_eqb, eq-eqb}
 use Rattle.ledger.specs.Book.{Book}
 use Rattle.entry.specs.declared.Entry.TheVariants as entry
 use Rattle.reasons.specs.declared.cause.Cause.TheVariants as cause
@@ -45,6 +45,11 @@ module _ (spared : ℕ) (ids : List ℕ) (i : ℕ) where
   -- where the marks that are left lead
   abbrev left_to : List ℕ → Model → Model
   left_to l m = after_doing (markings (others spared l)) m
+
+  -- the id at i is spared
+  pub markings_spared : (d : ℕ) (m : Model) → i < length ids → get_or ids i d ≡ spared → left_to (drop (i + 1) ids) m ≡ left_to (drop i ids) m
+  markings_spared d m within is =
+      sym (at_drop_more (λ (l : List ℕ). left_to l m) ids i d within ∙ ap (λ (b : Bool). after_doing (markings (cond (not b) (get_or ids i d ∷ others spared (drop (i + 1) ids)) (others spared (drop (i + 1) ids)))) m) (eq-eqb (get_or ids i d) spared is))
 
   -- the id at i is marked
   pub markings_more : (d : ℕ) (m n : Model) → i < length ids → (get_or ids i d ≡ spared → ⊥) → n ≡ after_doing (marking (get_or ids i d)) m → left_to (drop (i + 1) ids) n ≡ left_to (drop i ids) m
