@@ -1,8 +1,13 @@
 -- The walk of a cascade, turn by turn.
-use Rattle.std.proofs.Common.{◌≡◌, ℕ, suc, ◌+◌, List, [], ◌∷◌, ◌++◌, reverse, length, sym, refl, ap, ◌∙◌, add-one}
-use Rattle.std.proofs.lemmas.List.{append_assoc, reverse-append}
+use Rattle.std.proofs.Common.{◌≡◌, ℕ, zero, suc, ◌+◌, List, [], ◌∷◌, ◌++◌, reverse, length, sym, refl, ap, ◌∙◌, add-one}
+use Rattle.std.proofs.lemmas.List.{append-nil, append_assoc, reverse-append}
 use Rattle.lineage.specs.Family.{Family}
 use Rattle.lineage.specs.Cascade.{step, walk, cascaded}
+
+-- where no node waits, the walk is over
+pub walk_end : (k : ℕ) (F : Family) → walk k [] F ≡ (F, [])
+walk_end zero F = refl
+walk_end (suc k) F = refl
 
 -- what is still to be done gives the whole: the family, and the marks after those so far; what
 -- waits has the next one last
@@ -28,3 +33,8 @@ module _ (k k' : ℕ) (p q p' : List ℕ) (F G : Family) (s : ℕ) (marks marks'
             ∙ (ap (λ (w : Family × List ℕ). marks ++ ((step s F).marks ++ w.1)) two
             ∙ (sym (ap (λ (w : Family × List ℕ). marks ++ w.1) one) ∙ so_far.marks_all)));
       }
+
+pub going_end : (k : ℕ) (p : List ℕ) (F : Family) (marks : List ℕ) (whole : Family × List ℕ) → Going k p F marks whole → p ≡ [] → (F ≡ whole.0) × (marks ≡ whole.1)
+going_end k p F marks whole so_far none =
+    let e : walk k (reverse p) F ≡ (F, []) = ap (λ (l : List ℕ). walk k (reverse l) F) none ∙ walk_end k F in
+    (sym (ap (λ (w : Family × List ℕ). w.0) e) ∙ so_far.ends, sym (append-nil marks) ∙ (sym (ap (λ (w : Family × List ℕ). marks ++ w.1) e) ∙ so_far.marks_all))

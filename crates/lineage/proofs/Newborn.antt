@@ -1,6 +1,6 @@
 -- What comes before a link, and what a birth makes of a family.
-use Rattle.std.proofs.Common.{◌≡◌, ℕ, ◌≤◌, cond, ltb, List, length, Some, None, Option, refl}
-use Rattle.std.proofs.lemmas.Bool.{le-ltb, cond_both}
+use Rattle.std.proofs.Common.{◌≡◌, ℕ, ◌<◌, ◌≤◌, cond, ltb, List, length, Some, None, Option, refl}
+use Rattle.std.proofs.lemmas.Bool.{lt-ltb, le-ltb, cond_both}
 use Rattle.keyed.specs.Choices.{given}
 use Rattle.keyed.proofs.Finds.{length_change}
 use Rattle.nodes.specs.declared.Node.{Node}
@@ -13,6 +13,9 @@ pub same_family : {ns ns' : List Node} {ls ls' : List Link} {k k' : ℕ} → ns 
 same_family p q r = cc
 
 module _ (p : ℕ) (F : Family) (n : Node) (found : node_at p F ≡ Some n) where
+  pub tidied_few : n.stale < 32 → tidied p F ≡ F
+  tidied_few h = rw found (rw (lt-ltb n.stale 32 h) refl)
+
   pub tidied_many : 32 ≤ n.stale → tidied p F ≡ swept p F
   tidied_many h = rw found (rw (le-ltb n.stale 32 h) refl)
 

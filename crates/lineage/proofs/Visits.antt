@@ -11,9 +11,18 @@ use Rattle.links.proofs.Gathering.{children_count}
 use Rattle.lineage.specs.Family.{Family, node_at}
 use Rattle.lineage.specs.Cascade.{Step, condemned, passed, struck, step_at, step, unaborted}
 
--- a node that lives and is not aborted is struck
-pub step_struck : (s : ℕ) (F : Family) (n : Node) → node_at s F ≡ Some n → n.aborted ≡ false → step s F ≡ struck s n F
-step_struck s F n found h = ap (λ (o : Option Node). step_at s o F) found ∙ rw h refl
+module _ (s : ℕ) (F : Family) where
+  -- a node that is dead is passed over
+  pub step_dead : node_at s F ≡ None → step s F ≡ passed F
+  step_dead h = ap (λ (o : Option Node). step_at s o F) h
+
+  -- so is one that lives and is aborted, and any other that lives is struck
+  module _ (n : Node) (found : node_at s F ≡ Some n) where
+    pub step_passed : n.aborted ≡ true → step s F ≡ passed F
+    step_passed h = ap (λ (o : Option Node). step_at s o F) found ∙ rw h refl
+
+    pub step_struck : n.aborted ≡ false → step s F ≡ struck s n F
+    step_struck h = ap (λ (o : Option Node). step_at s o F) found ∙ rw h refl
 
 unaborted_change : (s : ℕ) (xs : List Node) → unaborted (change serial_of condemned s xs) ≤ unaborted xs
 unaborted_change s [] = omega arith
