@@ -10,13 +10,13 @@ use Rattle.keyed.proofs.Maps.{find_map}
 use Rattle.keyed.proofs.Answers.{answered_ok}
 use Rattle.nodes.specs.declared.Node.{Node}
 use Rattle.nodes.specs.Node.{serial_of, fresh, with_owner, with_task, with_stale, bereaved, released, vacated, taken}
-use Rattle.lineage.specs.Family.{Family, family, node_at, changed}
+use Rattle.lineage.specs.Family.{Family, family, node_at, changed, aborted_at}
 use Rattle.lineage.specs.Births.{swept, tidied, orphaned, born}
 use Rattle.lineage.specs.Deaths.{mourned, buried, doomed, one_dies, repeated, settled}
 use Rattle.lineage.specs.Cascade.{Step, condemned, passed, struck, step_at, step, walk, cascaded}
 use Rattle.lineage.proofs.Newborn.{tidied_tells}
 use Rattle.supervision.specs.Laws.{Aged, Later}
-use Rattle.supervision.specs.Calls.{closed, seated, closed_all, left}
+use Rattle.supervision.specs.Calls.{child_refusal, with_child, after_child, context_refusal, closed, after_close, seated, closed_all, left}
 use Rattle.supervision.proofs.Solid.{tidied_by}
 use Rattle.supervision.proofs.Whole.{by_test}
 
@@ -31,10 +31,10 @@ aged_by F G le none = record {
   ];
 }
 
-aged_same : (F : Family) → Aged F F
+pub aged_same : (F : Family) → Aged F F
 aged_same F = aged_by F F (omega arith) (λ t l h. h)
 
-aged_then : (F G H : Family) → Aged F G → Aged G H → Aged F H
+pub aged_then : (F G H : Family) → Aged F G → Aged G H → Aged F H
 aged_then F G H a b = aged_by F H (omega (arith, a.grows, b.grows)) (λ t l h. b.gone t (omega (arith, a.grows, l)) (a.gone t l h))
 
 -- no node of the new list is one that the old list had not
@@ -64,7 +64,7 @@ none_push k t ns n is l h = elim (none_or_some (find serial_of t (ns ++ n ∷ []
   | inr e ↦ elim (find_push serial_of t ns n e.0 e.1) [ inl o ↦ absurd (some_not_none h o) | inr f ↦ absurd (omega (arith, f.1, is)) ]
 ]
 
-aged_changed : (f : Node → Node) → ((n : Node) → serial_of (f n) ≡ serial_of n) → (s : ℕ) (F : Family) (G : Family) → G.nodes ≡ change serial_of f s F.nodes → G.next ≡ F.next → Aged F G
+pub aged_changed : (f : Node → Node) → ((n : Node) → serial_of (f n) ≡ serial_of n) → (s : ℕ) (F : Family) (G : Family) → G.nodes ≡ change serial_of f s F.nodes → G.next ≡ F.next → Aged F G
 aged_changed f same s F G is next = by_nodes F (change serial_of f s F.nodes) F.next (omega arith) (λ t l h. none_change f same s t F.nodes h) G is next
 
 aged_map : (g : Node → Node) → ((n : Node) → serial_of (g n) ≡ serial_of n) → (F : Family) → Aged F (family (map g F.nodes) F.links F.next)
@@ -85,19 +85,29 @@ aged_repeated : (k : ℕ) (F : Family) → Aged F (repeated k one_dies F)
 aged_repeated zero F = aged_same F
 aged_repeated (suc k) F = aged_then F (one_dies F) (repeated k one_dies (one_dies F)) (aged_one_at F (doomed F)) (aged_repeated k (one_dies F))
 
-aged_settled : (F : Family) → Aged F (settled F)
+pub aged_settled : (F : Family) → Aged F (settled F)
 aged_settled F = aged_repeated (length F.nodes) F
 
 aged_alone : (parent : Option ℕ) (aborted : Bool) (owner : ℕ) (F G : Family) → G.nodes ≡ F.nodes ++ fresh F.next parent aborted owner ∷ [] → G.next ≡ F.next + 1 → Aged F G
 aged_alone parent aborted owner F G is next = by_nodes F (F.nodes ++ fresh F.next parent aborted owner ∷ []) (F.next + 1) (omega arith) (λ t l h. none_push F.next t F.nodes (fresh F.next parent aborted owner) refl l h) G is next
 
-aged_orphaned : (owner : ℕ) (F : Family) → Aged F (orphaned owner F)
+pub aged_orphaned : (owner : ℕ) (F : Family) → Aged F (orphaned owner F)
 aged_orphaned owner F = aged_alone None true owner F (orphaned owner F) refl refl
 
-aged_born : (p owner : ℕ) (F : Family) → Aged F (born p owner F)
+pub aged_born : (p owner : ℕ) (F : Family) → Aged F (born p owner F)
 aged_born p owner F =
     let tidy : Aged F (tidied p F) = tidied_by (Aged F) p F (aged_same F) (aged_changed (with_stale 0) (λ _. refl) p F (swept p F) refl refl) in
     aged_then F (tidied p F) (born p owner F) tidy (aged_alone (Some p) false owner (tidied p F) (born p owner F) refl refl)
+
+aged_whether : {E : Type 0} (o : Option E) (F G H : Family) → Aged F G → Aged F H → Aged F (whether o G H)
+aged_whether None F G H a b = a
+aged_whether (Some e) F G H a b = b
+
+pub aged_child : (task s : ℕ) (F : Family) → Aged F (after_child task s F)
+aged_child task s F =
+    aged_whether (child_refusal task s F) F (with_child task s F) F
+    (cond_both (aborted_at s F) (orphaned task F) (born s task F) (Aged F) (λ _. aged_orphaned task F) (λ _. aged_born s task F))
+    (aged_same F)
 
 aged_step : (s : ℕ) (o : Option Node) (F : Family) → Aged F (step_at s o F).after
 aged_step s None F = aged_same F
@@ -108,7 +118,7 @@ aged_walk zero st F = aged_same F
 aged_walk (suc k) [] F = aged_same F
 aged_walk (suc k) (s ∷ st) F = aged_then F (step s F).after (walk (suc k) (s ∷ st) F).0 (aged_step s (node_at s F) F) (aged_walk k (reverse (step s F).below ++ st) (step s F).after)
 
-aged_cascaded : (top : ℕ) (F : Family) → Aged F (cascaded top F).0
+pub aged_cascaded : (top : ℕ) (F : Family) → Aged F (cascaded top F).0
 aged_cascaded top F = aged_walk (1 + length F.links) (top ∷ []) F
 
 next_one_at : (F : Family) (o : Option Node) → (given o F (λ n. buried n F)).next ≡ F.next
@@ -172,3 +182,6 @@ later_seated s task F = record {
 
 pub later_cascaded : (top : ℕ) (F : Family) → Later 0 F (cascaded top F).0
 later_cascaded top F = record { serials = aged_cascaded top F; next = omega (arith, next_cascaded top F) }
+
+pub aged_close : (task s : ℕ) (F : Family) → Aged F (after_close task s F)
+aged_close task s F = aged_whether (context_refusal task s F) F (closed s F) F (later_closed s F).serials (aged_same F)
