@@ -28,10 +28,14 @@ same_length : (part other rest tail : List ℕ) → length part < 2 ^ 64 → len
 same_length part other rest tail p q same =
     big_endian_injective 8 (length part) (length other) p q (append_apart (big_endian 8 (length part)) (big_endian 8 (length other)) rest tail refl same).0
 
+-- some bytes are not none
+some_none : (x : ℕ) (xs : List ℕ) → x ∷ xs ≡ [] → ⊥
+some_none x xs same = let h = ap length same in omega (arith, h)
+
 pub framed_apart : Unambiguous
 framed_apart [] [] p q same = refl
-framed_apart [] (other ∷ others) p q same = absurd cc
-framed_apart (part ∷ parts) [] p q same = absurd cc
+framed_apart [] (other ∷ others) p q same = absurd (some_none _ _ (sym same))
+framed_apart (part ∷ parts) [] p q same = absurd (some_none _ _ same)
 framed_apart (part ∷ parts) (other ∷ others) p q same =
     let long = same_length part other (part ++ framed parts) (other ++ framed others) p.0 q.0 same in
     let pieces = first_part part other parts others long same in

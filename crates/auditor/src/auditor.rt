@@ -1,6 +1,7 @@
 // The digest of a rehearsal's events so far.
 ghost use Rattle.std.specs.Prelude.{◌≡◌, ℕ, List, [], ◌∷◌, ◌++◌};
-ghost use Rattle.auditor.specs.Events.{Event, process_task, stop, stopped, digest_after, digest_of, Unmistakable};
+ghost use Rattle.auditor.specs.Bytes.{big_endian};
+ghost use Rattle.auditor.specs.Events.{Event, process_task, stop, stopped, two's_complement, digest_after, digest_of, Unmistakable};
 ghost use Rattle.auditor.specs.Taken.{Taken, Told};
 
 use crate::hasher::AuditHasher;
@@ -12,6 +13,20 @@ pub type Digest = [u8; 4];
 #[derive(Clone, Copy)]
 pub struct Auditor {
     digest: Digest,
+}
+
+// A task's id in 16 bytes: ids are 64-bit here, and hashed as wide as the original's.
+fn id_bytes(id: u64) -> [u8; 16]
+    ensures { result ≡ big_endian 16 id }
+{
+    u128::from(id).to_be_bytes()
+}
+
+// A stop value in 4 bytes, two's complement.
+fn value_bytes(value: i32) -> [u8; 4]
+    ensures { result ≡ big_endian 4 (two's_complement value) }
+{
+    value.to_be_bytes()
 }
 
 impl Auditor {
@@ -47,8 +62,8 @@ impl Auditor {
         ensures unmistakable { Unmistakable self.old.digest (process_task id label.now) }
     {
         let mut hasher = self.begin(b"process_task");
-        // Ids are 64-bit here, and hashed as wide as the original's.
-        hasher.update(&u128::from(id).to_be_bytes());
+        let id = id_bytes(id);
+        hasher.update(&id);
         hasher.update(label);
         self.digest = hasher.finalize();
     }
@@ -60,7 +75,8 @@ impl Auditor {
         ensures unmistakable { Unmistakable self.old.digest (stop value) }
     {
         let mut hasher = self.begin(b"stop");
-        hasher.update(&value.to_be_bytes());
+        let value = value_bytes(value);
+        hasher.update(&value);
         self.digest = hasher.finalize();
     }
 

@@ -1,6 +1,6 @@
 // Hashes parts so that no two lists of parts feed the same bytes.
 ghost use Rattle.std.specs.Prelude.{◌≡◌, ℕ, List, [], ◌∷◌, ◌++◌};
-ghost use Rattle.auditor.specs.Bytes.{Unambiguous};
+ghost use Rattle.auditor.specs.Bytes.{big_endian, Unambiguous};
 ghost use Rattle.auditor.specs.Events.{digest_of_parts};
 ghost use Rattle.auditor.specs.Taken.{Taken};
 
@@ -9,6 +9,20 @@ use crc32c::Crc32c;
 // A digest in the making: the checksum of every part so far, each behind its length.
 pub struct AuditHasher {
     crc: Crc32c,
+}
+
+// A length in 8 bytes.
+fn length_prefix(length: usize) -> [u8; 8]
+    ensures { result ≡ big_endian 8 length }
+{
+    length.to_be_bytes()
+}
+
+// A checksum in 4 bytes.
+fn digest_bytes(checksum: u32) -> [u8; 4]
+    ensures { result ≡ big_endian 4 checksum }
+{
+    checksum.to_be_bytes()
 }
 
 impl AuditHasher {
@@ -23,7 +37,8 @@ impl AuditHasher {
     pub fn update(&mut self, part: &[u8])
         ensures taken { (parts : List (List ℕ)) → Taken self.old parts → Taken self.new (parts ++ part.now ∷ []) }
     {
-        self.crc.update(&part.len().to_be_bytes());
+        let prefix = length_prefix(part.len());
+        self.crc.update(&prefix);
         self.crc.update(part);
     }
 
@@ -33,6 +48,6 @@ impl AuditHasher {
         ensures value { (parts : List (List ℕ)) → Taken self parts → result ≡ digest_of_parts parts }
     {
         let AuditHasher { crc } = self;
-        crc.finalize().to_be_bytes()
+        digest_bytes(crc.finalize())
     }
 }

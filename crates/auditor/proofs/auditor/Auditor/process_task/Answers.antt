@@ -1,9 +1,6 @@
 use Rattle.std.proofs.Common.{◌≡◌, ℕ, List, [], ◌∷◌, length, codes, ap, ◌∙◌, rules}
-use Rattle.std.specs.Int.{w128}
-use Rattle.auditor.specs.Bytes.{big_endian}
 use Rattle.auditor.specs.Events.{process_task, digest_after, digest_of_parts}
 use Rattle.auditor.proofs.Apart.{hashed_apart}
-use Rattle.auditor.proofs.Endian.{std_bytes}
 use Rattle.auditor.proofs.Telling.{told_more}
 use Rattle.auditor.proofs.auditor.Auditor.process_task.Goals as goal
 
@@ -15,10 +12,10 @@ returns c =
     let name = codes "process_task" in
     let begun = c.begin-hasher.ensures.taken in
     let with_id = c.update.ensures.taken (digest ∷ name ∷ []) begun in
-    let with_label = c.update-2.ensures.taken (digest ∷ name ∷ c.to_be_bytes.result ∷ []) with_id in
+    let with_label = c.update-2.ensures.taken (digest ∷ name ∷ c.id_bytes-id.result ∷ []) with_id in
     let after =
-    c.finalize-self.ensures.value (digest ∷ name ∷ c.to_be_bytes.result ∷ label ∷ []) with_label
-    ∙ ap (λ (id : List ℕ). digest_of_parts (digest ∷ name ∷ id ∷ label ∷ [])) (c.to_be_bytes.ensures ∙ std_bytes w128 _ ∙ ap (big_endian 16) c.from.ensures) in
+    c.finalize-self.ensures.value (digest ∷ name ∷ c.id_bytes-id.result ∷ label ∷ []) with_label
+    ∙ ap (λ (id : List ℕ). digest_of_parts (digest ∷ name ∷ id ∷ label ∷ [])) c.id_bytes-id.ensures in
     let four : length digest ≡ 4 = search rules in
     record {
       after = after;
