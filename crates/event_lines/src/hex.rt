@@ -1,5 +1,5 @@
-// Hexadecimal digits. Written out, since a format of four numbers takes more than twice the work of all else that is done for a
-// line.
+// Hexadecimal digits. Written out, since a format of four numbers would be about half of the work of a line, and most of it where
+// the line is short.
 ghost use Rattle.std.specs.Prelude.{◌≡◌, ◌<◌};
 ghost use Rattle.event_lines.specs.Told.{hex_digit, hex_of};
 
