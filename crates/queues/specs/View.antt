@@ -1,12 +1,12 @@
 -- What the two queues stand for, and what is dealt from them.
-use Rattle.std.specs.Prelude.{ℕ, List, [], ◌∷◌, Some, None, Option}
+use Rattle.std.specs.Prelude.{ℕ, List, [], ◌∷◌, Some, None, vec_items, Option}
 use Rattle.std.specs.VecDeque.{deque_items}
 use Rattle.deterministic.specs.Model as model
 use Rattle.queues.specs.declared.Queues.{Queues}
 
 -- what waits, and what is drained and not dealt yet
 abbrev pub view : Queues → model.Queues
-view q = record { waiting = deque_items q.waiting; drained = deque_items q.drained }
+view q = record { waiting = vec_items q.waiting; drained = deque_items q.drained }
 
 -- nothing waits, and nothing is drained
 abbrev pub nothing_queued : model.Queues

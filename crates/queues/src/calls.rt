@@ -9,13 +9,14 @@ use crate::{MOST_WAITING, Queues};
 use arrange::arranger::{Arranger, put_in_order};
 use std::alloc::{AllocError, Global};
 use std::collections::VecDeque;
+use std::mem;
 
 impl Queues {
     // Two empty queues, each with the memory for MOST_WAITING ids.
     pub fn new(heap: Global) -> Result<Queues, AllocError>
         ensures made { IfOk result (λ q. view q ≡ nothing_queued) }
     {
-        let waiting = VecDeque::with_capacity(heap, MOST_WAITING)?;
+        let waiting = Vec::with_capacity(heap, MOST_WAITING)?;
         let drained = VecDeque::with_capacity(heap, MOST_WAITING)?;
         Ok(Queues { waiting, drained })
     }
@@ -40,17 +41,21 @@ impl Queues {
         ensures state { view self.new ≡ also_waiting id (view self.old) }
         ensures length { length (view self.new).waiting ≡ length (view self.old).waiting + 1 }
     {
-        self.waiting.push_back_reserved(id);
+        self.waiting.push_reserved(id);
     }
 
-    // Drains all that wait, in the arranger's order, once all that was drained before is dealt.
+    // Drains all that wait, in the arranger's order, once all that was drained before is dealt. The next ids wait in the memory of
+    // those. An exchange of two `VecDeque`s would be shorter, but they begin anywhere in their memory, and are moved to be one slice.
     pub fn drain<W: Arranger<u64>>(&mut self, arranger: &mut W)
         requires dealt { (view self.old).drained ≡ [] }
         ensures state { view self.new ≡ all_drained (asked W.rule (W.value arranger.old) (view self.old).waiting).order }
         ensures next { W.value arranger.new ≡ (asked W.rule (W.value arranger.old) (view self.old).waiting).value }
     {
-        std::mem::swap(&mut self.waiting, &mut self.drained);
-        put_in_order(arranger, self.drained.make_contiguous());
+        let empty = VecDeque::new(*self.drained.allocator());
+        let dealt = mem::replace(&mut self.drained, empty).into_vec();
+        let mut waited = mem::replace(&mut self.waiting, dealt);
+        put_in_order(arranger, waited.as_mut_slice());
+        self.drained = VecDeque::from_vec(waited);
     }
 
     // Takes the drained id that is dealt next, or none if all are dealt.
