@@ -3,7 +3,7 @@ use Rattle.std.proofs.Common.{◌≡◌, ℕ, ◌+◌, ◌<◌, ◌≤◌, true,
 use Rattle.std.specs.Option.{IfSome}
 use Rattle.std.proofs.lemmas.List.{get_or_default}
 use Rattle.keyed.specs.Keyed.{ordered, find, change}
-use Rattle.keyed.proofs.Finds.{find_key, put_found}
+use Rattle.keyed.proofs.Finds.{find_key}
 use Rattle.keyed.proofs.Orders.{find_within, ordered_push_above}
 use Rattle.keyed.proofs.Places.{change_write, ordered_put_at}
 
@@ -28,6 +28,10 @@ module _ {X : Type 0} (key : X → ℕ) where
   found_below hi k xs None o is = tt
   found_below hi k xs (Some x) o is = (find_key key k xs x (sym is), (find_within key 0 hi k xs x o (sym is)).1)
 
-  -- the record with the key k is found, and y, what a step makes of it, is put in its place
-  pub stepped : (f : X → X) (hi k : ℕ) (xs ys : List X) (x y : X) → ordered key 0 hi xs ≡ true → Some x ≡ find key k xs → y ≡ f x → key y ≡ key x → ys ≡ change key (λ _. y) (key y) xs → ys ≡ change key f k xs
-  stepped f hi k xs ys x y o found made same is = put_found key f 0 hi k xs ys x y o (sym found) made (ap key (sym made) ∙ same) is
+  -- x is read where the key k stands, and y has its key
+  pub key_kept : (k : ℕ) (xs : List X) (i : ℕ) (x y : X) → ((d : X) → key (get_or xs i d) ≡ k) → key y ≡ key x → x ≡ get_or xs i x → key y ≡ k
+  key_kept k xs i x y e same read = same ∙ (ap key read ∙ e x)
+
+  -- x is read where the key k stands, and y, what a step makes of it, is written there
+  pub stepped : (f : X → X) (hi k : ℕ) (xs ys : List X) (i : ℕ) (x y : X) → ordered key 0 hi xs ≡ true → i < length xs → ((d : X) → key (get_or xs i d) ≡ k) → x ≡ get_or xs i x → y ≡ f x → ys ≡ set xs i y → ys ≡ change key f k xs
+  stepped f hi k xs ys i x y o h e read made is = is ∙ change_write key hi k xs i (length xs) o refl h e f x y read made

@@ -64,15 +64,12 @@ impl Roster {
         }
     }
 
-    // The table's own `change` asks of every step that it keeps the key; here that is a premise of what is promised.
     // A step at the task's row, if it has one.
     pub fn turn<F: FnOnce(Row) -> Row>(&mut self, task: u64, step: F)
         requires { F.IsAlwaysCallable step }
         ensures { (change : Entry → Entry) → Computes (F.post step) change → KeepsTask change → view self.new ≡ turned change task (view self.old) }
     {
-        if let Some(row) = self.rows.find(task) {
-            self.rows.put(step(row));
-        }
+        self.rows.turn(task, step);
     }
 
     // Strikes the task's row, if it has one.

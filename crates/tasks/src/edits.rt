@@ -1,9 +1,8 @@
 // How the tasks are made and changed.
 ghost use Rattle.std.specs.Prelude.{◌≡◌, ◌+◌, ◌^◌, ◌<◌, length, IfOk};
-ghost use Rattle.deterministic.specs.Model.{Task as Registered, id_of, with_task, with_changed, without_task, marked, pended};
+ghost use Rattle.deterministic.specs.Model.{with_task, with_changed, without_task, marked, pended};
 ghost use Rattle.tasks.specs.Limits.{most_tasks};
 ghost use Rattle.tasks.specs.Label.{label_bytes};
-ghost use Rattle.tasks.specs.Task.{task_view};
 ghost use Rattle.tasks.specs.Model.{view, nobody};
 
 use crate::Tasks;
@@ -33,31 +32,18 @@ impl Tasks {
         id
     }
 
-    // The table's own `change` asks of every step that it keeps the key; here that is a premise of what is promised.
-    // Puts the task of this id back as the step leaves it, if it is registered.
-    fn change<F: FnOnce(Task) -> Task>(&mut self, id: u64, step: F)
-        requires { F.IsAlwaysCallable step }
-        ensures { (g : Registered → Registered) → ((t : Registered) → id_of (g t) ≡ id_of t)
-            → ((x y : Task) → F.post step x y → task_view y ≡ g (task_view x))
-            → view self.new ≡ with_changed g id (view self.old) }
-    {
-        if let Some(task) = self.tasks.find(id) {
-            self.tasks.put(step(task));
-        }
-    }
-
     // Marks the task of this id aborted, if it is registered.
     pub fn mark(&mut self, id: u64)
         ensures { view self.new ≡ with_changed marked id (view self.old) }
     {
-        self.change(id, Task::mark);
+        self.tasks.change(id, Task::mark);
     }
 
     // Notes that the body of the task of this id has come to pending, if it is registered.
     pub fn pend(&mut self, id: u64)
         ensures { view self.new ≡ with_changed pended id (view self.old) }
     {
-        self.change(id, Task::pend);
+        self.tasks.change(id, Task::pend);
     }
 
     // Strikes the task of this id, if it is registered. Its id is not given out again.

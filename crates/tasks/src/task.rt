@@ -44,7 +44,8 @@ impl Task {
 
     // The task, marked aborted.
     pub(crate) fn mark(self) -> Task
-        ensures { task_view result ≡ marked (task_view self) }
+        ensures view { task_view result ≡ marked (task_view self) }
+        ensures label { result.label ≡ self.label }
     {
         Task {
             marked: true,
@@ -54,7 +55,8 @@ impl Task {
 
     // The task, whose body has come to pending.
     pub(crate) fn pend(self) -> Task
-        ensures { task_view result ≡ pended (task_view self) }
+        ensures view { task_view result ≡ pended (task_view self) }
+        ensures label { result.label ≡ self.label }
     {
         Task {
             pended: true,

@@ -43,14 +43,16 @@ impl<T: Record, const N: usize> Table<T, N> {
         self.rows.as_slice()
     }
 
-    // Where the record with this key stands. Keys ascend, so half of those left are ruled out at a time.
+    // Where the record with this key stands. The first record is looked at first, since it is asked for most. Keys ascend, so half of
+    // those left are ruled out at a time.
     fn place(&self, key: u64) -> Option<usize>
         ensures { MatchOption result (known T.key key (rows self.now) ≡ false) (λ i. (i < length (rows self.now)) × ((d : T) → T.key (slice_index_or (rows self.now) i d) ≡ key)) }
     {
-        self.rows
-            .as_slice()
-            .binary_search_by_key(&key, |row| row.key())
-            .ok()
+        let rows = self.as_slice();
+        match rows.first() {
+            Some(row) if row.key() == key => Some(0),
+            _ => rows.binary_search_by_key(&key, |row| row.key()).ok(),
+        }
     }
 
     // The record with this key, if there is one.
@@ -90,8 +92,23 @@ impl<T: Record, const N: usize> Table<T, N> {
         ensures rows { (f : T → T) → Computes (F.post step) f → rows self.new ≡ change T.key f key (rows self.old) }
         ensures next { next_key self.new ≡ next_key self.old }
     {
-        if let Some(row) = self.find(key) {
-            self.put(step(row));
+        if let Some(at) = self.place(key) {
+            let row = self.as_slice()[at];
+            self.rows.put(at, step(row));
+        }
+    }
+
+    // Changes the record with this key to what the step makes of it, if there is one and the step keeps its key.
+    pub fn turn<F: FnOnce(T) -> T>(&mut self, key: u64, step: F)
+        requires { F.IsAlwaysCallable step }
+        ensures rows { (f : T → T) → Computes (F.post step) f → ((x : T) → T.key (f x) ≡ T.key x) → rows self.new ≡ change T.key f key (rows self.old) }
+        ensures next { next_key self.new ≡ next_key self.old }
+    {
+        if let Some(at) = self.place(key) {
+            let turned = step(self.as_slice()[at]);
+            if turned.key() == key {
+                self.rows.put(at, turned);
+            }
         }
     }
 

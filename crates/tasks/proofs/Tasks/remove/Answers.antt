@@ -1,5 +1,5 @@
 -- A removal from the table is a removal from the registry.
-use Rattle.std.proofs.Common.{map, refl, ap, ◌∙◌}
+use Rattle.std.proofs.Common.{refl, rules}
 use Rattle.keyed.specs.Table.{rows}
 use Rattle.keyed.proofs.Views.{without_view}
 use Rattle.deterministic.specs.Model.{id_of}
@@ -8,5 +8,5 @@ use Rattle.tasks.proofs.Tasks.remove.Goals as goal
 
 pub returns : goal.returns
 returns c =
-    let left = ap (map task_view) c.remove.ensures.rows ∙ without_view task_view (λ t. t.id) id_of (λ _. refl) c.args.id (rows c.args.self.now.tasks) in
-    cc (left, c.remove.ensures.next)
+    let left = without_view task_view (λ t. t.id) id_of (λ _. refl) c.args.id (rows c.args.self.now.tasks) in
+    search (rules, left)
