@@ -43,16 +43,36 @@ impl<T: Record, const N: usize> Table<T, N> {
         self.rows.as_slice()
     }
 
-    // Where the record with this key stands. The first record is looked at first, since it is asked for most. Keys ascend, so half of
-    // those left are ruled out at a time.
+    // Where the record with this key stands. The first record is looked at first, since it is asked for most.
     fn place(&self, key: u64) -> Option<usize>
         ensures { MatchOption result (known T.key key (rows self.now) ≡ false) (λ i. (i < length (rows self.now)) × ((d : T) → T.key (slice_index_or (rows self.now) i d) ≡ key)) }
     {
-        let rows = self.as_slice();
-        match rows.first() {
+        match self.as_slice().first() {
             Some(row) if row.key() == key => Some(0),
-            _ => rows.binary_search_by_key(&key, |row| row.key()).ok(),
+            _ => self.place_by_halves(key),
         }
+    }
+
+    // Where the record with this key stands. Keys ascend, so half of those left are ruled out at a time.
+    fn place_by_halves(&self, key: u64) -> Option<usize>
+        ensures { MatchOption result (known T.key key (rows self.now) ≡ false) (λ i. (i < length (rows self.now)) × ((d : T) → T.key (slice_index_or (rows self.now) i d) ≡ key)) }
+    {
+        let rows = self.as_slice();
+        let mut low = 0;
+        let mut high = rows.len();
+        while low < high {
+            let middle = low + (high - low) / 2;
+            let here = rows[middle].key();
+            if here == key {
+                return Some(middle);
+            }
+            if here < key {
+                low = middle + 1;
+            } else {
+                high = middle;
+            }
+        }
+        None
     }
 
     // The record with this key, if there is one.
