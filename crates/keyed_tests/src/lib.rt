@@ -82,4 +82,45 @@ mod tests {
         assert_eq!(rt; (jars.find(0), jars.next()), (None, 5));
         Ok(())
     }
+
+    #[test]
+    fn a_step_changes_one_record(rt: HostRuntime) -> Result<(), Fail> {
+        let mut jars = Table::<Jar, 3>::new(rt.alloc())?;
+        jars.push(Jar {
+            shelf: 0,
+            spoons: 1,
+        });
+        jars.push(Jar {
+            shelf: 4,
+            spoons: 1,
+        });
+        jars.push(Jar {
+            shelf: 6,
+            spoons: 1,
+        });
+        jars.change(6, |jar| Jar { spoons: 5, ..jar });
+        jars.turn(0, |jar| Jar { spoons: 7, ..jar });
+        jars.turn(4, |jar| Jar { shelf: 9, ..jar });
+        jars.turn(5, |jar| Jar { spoons: 8, ..jar });
+        assert!(rt;
+            jars.as_slice()
+                == [
+                    Jar {
+                        shelf: 0,
+                        spoons: 7
+                    },
+                    Jar {
+                        shelf: 4,
+                        spoons: 1
+                    },
+                    Jar {
+                        shelf: 6,
+                        spoons: 5
+                    }
+                ]
+                .as_slice()
+        );
+        assert_eq!(rt; (jars.len(), jars.next()), (3, 7));
+        Ok(())
+    }
 }
