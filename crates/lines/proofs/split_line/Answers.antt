@@ -1,4 +1,4 @@
-use Rattle.std.proofs.Common.{eqb, rules, tests, subst}
+use Rattle.std.proofs.Common.{eqb, rules, tests, subst, arith}
 use Rattle.std.proofs.lemmas.Iterator.{YieldsList-from_slice}
 use Rattle.std.proofs.lemmas.Iterator.Search.{position_from_yields_List}
 use Rattle.lines.proofs.Cuts.{Cut, text_of_cut}
@@ -14,4 +14,5 @@ pub returns-clause-cases : goal.returns-clause-cases
 returns-clause-cases c =
     let bytes = c.args.bytes.now in
     let at = position_from_yields_List (λ b. eqb b 10) _ _ c.position.result c.position.ensures.ran (YieldsList-from_slice bytes cc) (λ x b q k. search (rules, tests)) in
-    subst (Cut bytes) c.in_ok-end.was (text_of_cut bytes _ at)
+    let cut = subst (Cut bytes) c.in_ok-end.was (text_of_cut bytes _ at) in
+    grind (arith, cut)
