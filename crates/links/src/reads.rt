@@ -27,7 +27,7 @@ impl Links {
     }
 
     // How many links the parent has, dead ones included. It and the next one count in a loop of their own: a chain of `filter` and
-    // `count` takes about twice the time.
+    // `count` takes up to two or three times as long.
     pub fn count(&self, parent: u64) -> usize
         ensures { result ≡ length (filter (from parent) (linked self.now)) }
     {

@@ -13,8 +13,8 @@ mod calls;
 pub const MOST_WAITING: usize = 1_024;
 
 // An id stands in a queue as often as it was queued. What waits is a vector, since it is put in order as one slice, and then becomes
-// the queue that is dealt from its front. The memory of both is reserved when they are made; a type of reserved queues for these two
-// fields alone would be no plainer than the fact beside each.
+// the queue that is dealt from its front. The memory of both is reserved when they are made. Neither is a `Reserved` list, since
+// each becomes the other at a drain; a type for these two fields alone would be no plainer than the fact beside each.
 #[derive(Drop)]
 pub struct Queues {
     waiting: Vec<u64>,
