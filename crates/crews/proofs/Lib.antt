@@ -1,2 +1,3 @@
 pub mod Rehearsed
 pub mod Behaved
+pub mod Dutiful

@@ -1,3 +1,4 @@
 pub mod Script
 pub mod Rehearsals
 pub mod Behaviours
+pub mod Duties
